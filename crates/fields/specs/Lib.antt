@@ -1,0 +1,4 @@
+pub mod Lists
+pub mod Fields
+pub mod Messages
+pub mod Answers

@@ -1,0 +1,14 @@
+-- Lists of numbers, and the arrays that hold them.
+use Prim.Native.Nat.{ℕ, zero, suc}
+use mathlib.Core.List.{List, [], _∷_}
+use lib.ListN.{replicate}
+use lib.Seq.{sets}
+
+-- f i, f (i + 1), ..: n of them
+unfoldable pub tabulate : {A : Type 0} → (ℕ → A) → ℕ → ℕ → List A
+tabulate f i zero = []
+tabulate f i (suc n) = f i ∷ tabulate f (suc i) n
+
+-- an array of n numbers: those of a list, and 0 past them
+abbrev pub filled : ℕ → List ℕ → List ℕ
+filled n vs = sets (replicate n 0) 0 vs

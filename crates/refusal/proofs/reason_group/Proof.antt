@@ -1,0 +1,36 @@
+-- `refusal::reason_group` meets its contract: a refusal's group is its number's.
+-- Assumes nothing.
+use mathlib.Core.Path.{_≡_, refl, sym, ap, _∙_}
+use borrow.Author.Needs.{needs}
+use Rattle.refusal.specs.declared.Reason.{Reason}
+use Rattle.refusal.specs.declared.Reason.the-variants.{Opening, Ends, Malformed, Edition, Kinds, Goal, Shift, Start, Gap, Weight, Window, Jobs, Kind, Trailing, Buffer, Table, Order, Job}
+use Rattle.refusal.specs.Reasons.{reasonNumber, reasonGroup, numberGroup}
+use Rattle.refusal.proofs.reason_group.Statement.{statement}
+use Rattle.refusal.proofs.reason_group.Tie as tie
+
+by-number : (r : Reason) → numberGroup (reasonNumber r) ≡ reasonGroup r
+unfolding numberGroup
+by-number Opening = refl
+by-number Ends = refl
+by-number Malformed = refl
+by-number Edition = refl
+by-number Kinds = refl
+by-number Goal = refl
+by-number Shift = refl
+by-number Start = refl
+by-number Gap = refl
+by-number Weight = refl
+by-number Window = refl
+by-number Jobs = refl
+by-number Kind = refl
+by-number Trailing = refl
+by-number Buffer = refl
+by-number (Table n) = refl
+by-number Order = refl
+by-number Job = refl
+
+returns : tie.Need-returns
+returns c = c .number-group .ensures ∙ ap numberGroup (c .before .reason-number .ensures) ∙ by-number (c .before .before .args .reason)
+
+pub reason-group-spec : {M : Type 1} → statement M
+reason-group-spec = tie.close (tie.spec (λ c κs. search needs) (λ c κs. search needs) returns)

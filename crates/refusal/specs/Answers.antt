@@ -1,0 +1,19 @@
+-- R + 256 × V of each answer: R is 0 or the refusal, V the bytes of a written message, the needed entries for 16, else 0.
+use Prim.Native.Nat.{ℕ, _+_, _*_}
+use Rattle.refusal.specs.declared.Reason.{Reason}
+use Rattle.refusal.specs.declared.Verdict.{Verdict}
+use Rattle.refusal.specs.declared.Verdict.the-variants.{Accepted, Refused}
+use Rattle.refusal.specs.declared.Written.{Written}
+use Rattle.refusal.specs.declared.Written.the-variants.{Bytes, Refused as NotWritten}
+use Rattle.refusal.specs.Reasons.{reasonNumber, needed}
+
+abbrev pub refusalNumber : Reason → ℕ
+refusalNumber r = reasonNumber r + 256 * needed r
+
+abbrev pub verdictNumber : Verdict → ℕ
+verdictNumber Accepted = 0
+verdictNumber (Refused r) = refusalNumber r
+
+abbrev pub writtenNumber : Written → ℕ
+writtenNumber (Bytes n) = 256 * n
+writtenNumber (NotWritten r) = refusalNumber r

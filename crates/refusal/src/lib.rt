@@ -1,0 +1,112 @@
+// Document 01's refusals: the one vocabulary of reasons, their numbers, and the group that the program prints.
+ghost use mathlib.Core.Path.{_≡_};
+ghost use Rattle.refusal.specs.Reasons.{reasonNumber, needed, reasonGroup, numberGroup};
+
+// Why a call is refused: one case for each row of 01's table of checks, in its order, 1 to 18.
+pub enum Reason {
+    // 1: the first two bytes are missing or other.
+    Opening,
+    // 2: the bytes end before a number's last group.
+    Ends,
+    // 3: a byte 00 ends a number of several groups, or the last group permitted has bit 7 set.
+    Malformed,
+    // 4: the edition is not 1.
+    Edition,
+    // 5: the number of kinds is not 1 to 5.
+    Kinds,
+    // 6: the goal is not 1 or 2.
+    Goal,
+    // 7: the shift is over 60.
+    Shift,
+    // 8: the start is over the number of kinds.
+    Start,
+    // 9: a gap is over 65535.
+    Gap,
+    // 10: a weight is over 1000.
+    Weight,
+    // 11: a first place is 0, a last place is before its first place, or over 60.
+    Window,
+    // 12: the number of jobs is over 60.
+    Jobs,
+    // 13: a job's kind is 0 or over the number of kinds.
+    Kind,
+    // 14: bytes are left over after the last number.
+    Trailing,
+    // 15: the buffer is too short.
+    Buffer,
+    // 16: the table has fewer entries than are needed, which it carries.
+    Table(u64),
+    // 17: no order is permitted.
+    Order,
+    // 18: a job in a plan is 0, over the number of jobs, or at an earlier place.
+    Job,
+}
+
+// The word that the program prints beside a refusal's number.
+pub enum Group {
+    Message,
+    Contents,
+    Room,
+    Order,
+    // The program cannot meet this refusal.
+    Unprinted,
+}
+
+// How reading a message ends.
+pub enum Verdict {
+    Accepted,
+    Refused(Reason),
+}
+
+// How writing a message ends.
+pub enum Written {
+    // The number of its bytes.
+    Bytes(usize),
+    Refused(Reason),
+}
+
+// 01's number of a refusal.
+pub fn reason_number(reason: Reason) -> u64
+    ensures { λ r. ⌜ r ≡ reasonNumber reason ⌝ }
+{
+    match reason {
+        Reason::Opening => 1,
+        Reason::Ends => 2,
+        Reason::Malformed => 3,
+        Reason::Edition => 4,
+        Reason::Kinds => 5,
+        Reason::Goal => 6,
+        Reason::Shift => 7,
+        Reason::Start => 8,
+        Reason::Gap => 9,
+        Reason::Weight => 10,
+        Reason::Window => 11,
+        Reason::Jobs => 12,
+        Reason::Kind => 13,
+        Reason::Trailing => 14,
+        Reason::Buffer => 15,
+        Reason::Table(_) => 16,
+        Reason::Order => 17,
+        Reason::Job => 18,
+    }
+}
+
+// The group of a refusal's number.
+pub fn number_group(number: u64) -> Group
+    ensures { λ r. ⌜ r ≡ numberGroup number ⌝ }
+{
+    match number {
+        1..=4 | 14 => Group::Message,
+        5..=13 => Group::Contents,
+        15..=16 => Group::Room,
+        17 => Group::Order,
+        _ => Group::Unprinted,
+    }
+}
+
+// The group of a refusal.
+pub fn reason_group(reason: Reason) -> Group
+    ensures { λ r. ⌜ r ≡ reasonGroup reason ⌝ }
+{
+    number_group(reason_number(reason))
+}
