@@ -13,8 +13,8 @@ use Rattle.number.specs.Readers.{Found, found, Reader, andThen, times}
 use Rattle.number.specs.Numbers.{number, encode}
 use Rattle.number.proofs.Steps.{went-on, found-value, found-next}
 use Rattle.number.proofs.RoundTrip.{number-written, number-read}
-use Rattle.fields.specs.Fields.{field}
-use Rattle.fields.proofs.Judged.{field-found, found-field}
+use Rattle.fields.specs.Fields.{field, within}
+use Rattle.fields.proofs.Judged.{field-found, found-field, within-true, true-within}
 
 -- a message's elements are bytes
 abbrev pub Bytes : List ℕ → Type 0
@@ -107,3 +107,13 @@ flat-length write w (a ∷ xs) h = rw (length-append, suc-mul) (omega (arith, h 
 pub all-map : {A : Type 0} (P Q : A → Type 0) (xs : List A) → ((a : A) → P a → Q a) → All P xs → All Q xs
 all-map P Q [] f h = tt
 all-map P Q (a ∷ xs) f h = (f a (h .0), all-map P Q xs f (h .1))
+
+-- ---- a number of low to high
+
+pub bounded-codec : (low high : ℕ) (why : Reason) → high < 128 ^ 3 → Codec (field 3 (within low high) why) encode (λ v. (low ≤ v) × (v ≤ high))
+bounded-codec low high why h =
+    let c = field-codec 3 (within low high) why (omega arith) in
+    record {
+      reads = λ s at v n b e. let r = c .reads s at v n b e in (r .0, within-true low high v (r .1 .1));
+      writes = λ s at v rest k e. c .writes s at v rest (omega (arith, k .1), true-within low high v (k .0) (k .1)) e;
+    }

@@ -4,3 +4,7 @@ pub mod Parts
 pub mod Openings
 pub mod Codecs
 pub mod Tables
+pub mod Loops
+pub mod Arrays
+pub mod Local
+pub mod Refusing

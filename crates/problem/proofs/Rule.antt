@@ -1,0 +1,71 @@
+-- A valid queue is a problem of the theory: its jobs and kinds are the record's, it is within 01's limits, and 01's place rule has the exchange law.
+use mathlib.Core.Logic.{_↔_}
+use mathlib.Core.Path.{_≡_, sym, ap, _∙_}
+use Prim.Native.Nat.{ℕ, zero, suc, _+_, _≤_, _<_}
+use native.Mathlib.Omega.{arith}
+use lib.Dec.{T as Is, leb→le, le→leb}
+use lib.ListN.{getD}
+use Rattle.sequencing.specs.Problem.{T, kind as kindIn, Proper, Exchange}
+use Rattle.sequencing.specs.Limits.{Limits}
+use Rattle.queue.specs.declared.Queue.{Queue}
+use Rattle.queue.specs.Record.{firstPlace, lastPlace, kind, Valid}
+use Rattle.fields.specs.Lists.{tabulate}
+use Rattle.fields.proofs.Tables.{length-tabulate}
+use Rattle.problem.specs.Problem.{distance, allowed, problem}
+use Rattle.problem.proofs.Tests.{and-l, and-r, and}
+
+-- the element i steps after f s is f (s + i)
+getD-tabulate : (f : ℕ → ℕ) (s n i j : ℕ) → s + i ≡ j → i < n → getD (tabulate f s n) i 0 ≡ f j
+unfolding tabulate
+getD-tabulate f s zero i j e h = absurd (omega arith)
+getD-tabulate f s (suc n) zero j e h = ap f (omega arith)
+getD-tabulate f s (suc n) (suc i) j e h = getD-tabulate f (suc s) n i j (omega arith) (omega arith)
+
+-- 01's sentence on job i at place p: at most m places late or early, and within the window of its kind
+pub record Allowed (q : Queue) (i p : ℕ) : Type 0 where
+  pub late : p ≤ i + q .«max_shift»
+  pub early : i ≤ p + q .«max_shift»
+  pub first : firstPlace q (kind q i) ≤ p
+  pub last : p ≤ lastPlace q (kind q i)
+
+module _ (q : Queue) where
+  -- the test is that sentence
+  pub allowed-is : (i p : ℕ) → Is (allowed q i p) ↔ Allowed q i p
+  unfolding allowed
+  allowed-is i p = (
+    (λ t. let near : distance p i ≤ q .«max_shift» = search (leb→le, and-l, and-r) in
+        record { late = omega arith; early = omega arith; first = search (leb→le, and-l, and-r); last = search (leb→le, and-l, and-r) }),
+    (λ r. let near : distance p i ≤ q .«max_shift» = omega arith in search (and, le→leb, near, r .first, r .last)),
+  )
+
+  -- T is the record's
+  pub jobs-is : T (problem q) ≡ q .jobs
+  jobs-is = length-tabulate (kind q) 1 (q .jobs)
+
+  -- and so is the kind of each of the T jobs
+  pub kind-is : (i : ℕ) → 1 ≤ i → i ≤ T (problem q) → kindIn (problem q) i ≡ kind q i
+  kind-is zero l u = absurd (omega arith)
+  kind-is (suc i) l u = getD-tabulate (kind q) 1 (q .jobs) i (suc i) (omega arith) (omega (arith, jobs-is))
+
+  -- 01's place rule has the exchange law: by hand-in neither shift is above the greater of the two the other way round, and one kind has one window
+  pub exchange : Exchange (problem q)
+  exchange i i′ p p′ low l high same b s t =
+      let s′ = allowed-is i p′ .0 s in
+      let t′ = allowed-is i′ p .0 t in
+      let e : kind q i ≡ kind q i′ = sym (kind-is i low (omega arith)) ∙ same ∙ kind-is i′ (omega arith) high in (
+        allowed-is i p .1 (record { late = omega arith; early = omega arith; first = rw e (t′ .first); last = omega arith }),
+        allowed-is i′ p′ .1 (record { late = omega arith; early = omega arith; first = omega arith; last = rw (← e) (s′ .last) }),
+      )
+
+  module _ (v : Valid q) where
+    -- each job has a kind of 1 to N
+    pub proper : Proper (problem q)
+    proper i l u = rw (kind-is i l u) (v .kinds-of-jobs i l (omega (arith, jobs-is)))
+
+    -- 01's bounds on gaps and pupils
+    pub limits : Limits (problem q) 65535 1000
+    limits = record { start = v .start; gaps = v .gaps; weights = v .weights; positive = omega arith }
+
+    -- and on jobs
+    pub few-jobs : T (problem q) ≤ 60
+    few-jobs = omega (arith, jobs-is, v .jobs)

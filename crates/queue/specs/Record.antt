@@ -1,0 +1,60 @@
+-- What a queue record holds, in document 01's terms, and the bounds on it.
+use Prim.Native.Nat.{ℕ, _+_, _-_, _*_, _≤_}
+use mathlib.Core.Bool.{Bool, _&&_}
+use mathlib.Core.List.{List}
+use lib.Dec.{leb}
+use lib.ListN.{getD}
+use Rattle.fields.specs.Lists.{tabulate}
+use Rattle.queue.specs.declared.Queue.{Queue}
+
+-- allowed places (a_j, b_j): 11 where a_j is 0, b_j < a_j, or b_j over 60
+abbrev pub windowOk : ℕ × ℕ → Bool
+windowOk w = leb 1 (w .0) && leb (w .0) (w .1) && leb (w .1) 60
+
+module _ (q : Queue) where
+  -- gap(i, j): seconds from the finish of a job of kind i (0: the cold cutter) to that of a job of kind j right after it
+  abbrev pub gap : ℕ → ℕ → ℕ
+  gap i j = getD (q .gaps) (5 * i + (j - 1)) 0
+
+  -- w_j, the pupils waiting for one job of kind j
+  abbrev pub weight : ℕ → ℕ
+  weight j = getD (q .weights) (j - 1) 0
+
+  -- a_j and b_j, the first and the last place allowed to kind j
+  abbrev pub firstPlace : ℕ → ℕ
+  firstPlace j = getD (q .«first_places») (j - 1) 0
+
+  abbrev pub lastPlace : ℕ → ℕ
+  lastPlace j = getD (q .«last_places») (j - 1) 0
+
+  -- the kind of job i
+  abbrev pub kind : ℕ → ℕ
+  kind i = getD (q .«job_kinds») (i - 1) 0
+
+  -- gap rows 0 to N, N numbers each
+  abbrev pub rows : List (List ℕ)
+  rows = tabulate (λ i. tabulate (gap i) 1 (q .kinds)) 0 (q .kinds + 1)
+
+  -- w_1 .. w_N
+  abbrev pub weightList : List ℕ
+  weightList = tabulate weight 1 (q .kinds)
+
+  -- a_1 b_1 .. a_N b_N
+  abbrev pub windows : List (ℕ × ℕ)
+  windows = tabulate (λ j. (firstPlace j, lastPlace j)) 1 (q .kinds)
+
+  -- the T kinds
+  abbrev pub kindList : List ℕ
+  kindList = tabulate kind 1 (q .jobs)
+
+  -- 01's bounds: a record that can be written, up to N and T
+  pub record Valid : Type 0 where
+    pub kinds : (1 ≤ q .kinds) × (q .kinds ≤ 5)
+    pub goal : (1 ≤ q .goal) × (q .goal ≤ 2)
+    pub shift : q .«max_shift» ≤ 60
+    pub start : q .start ≤ q .kinds
+    pub gaps : (i j : ℕ) → i ≤ q .kinds → 1 ≤ j → j ≤ q .kinds → gap i j ≤ 65535
+    pub weights : (j : ℕ) → 1 ≤ j → j ≤ q .kinds → weight j ≤ 1000
+    pub places : (j : ℕ) → 1 ≤ j → j ≤ q .kinds → (1 ≤ firstPlace j) × (firstPlace j ≤ lastPlace j) × (lastPlace j ≤ 60)
+    pub jobs : q .jobs ≤ 60
+    pub kinds-of-jobs : (i : ℕ) → 1 ≤ i → i ≤ q .jobs → (1 ≤ kind i) × (kind i ≤ q .kinds)

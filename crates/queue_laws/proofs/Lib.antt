@@ -1,0 +1,9 @@
+pub mod GapRows
+pub mod Contents
+pub mod Pieces
+pub mod Accepted
+pub mod Written
+pub mod Records
+pub mod Zeros
+pub mod FirstBytes
+pub mod Refusals

@@ -1,0 +1,46 @@
+-- A cost or none: what a cost that is found says, and what is found at most.
+use mathlib.Core.Bool.{Bool, true, false}
+use mathlib.Core.Option.{Option, none, some}
+use mathlib.Core.Path.{_≡_, refl, sym}
+use Prim.Native.Nat.{ℕ, _+_, _≤_}
+use native.Mathlib.Omega.{arith}
+use lib.Dec.{T as Is}
+use Rattle.sequencing.specs.Least.{only, plus, lower}
+
+pub some-eq : (a b : ℕ) → some a ≡ some b → a ≡ b
+some-eq a b e = cc
+
+pub none-some : (c : ℕ) → none ≡ some c → ⊥
+none-some c e = let z : _≡_ {A = ℕ} 0 1 = cc in omega arith
+
+pub only-some : (b : Bool) (r : Option ℕ) (c : ℕ) → only b r ≡ some c → Is b × (r ≡ some c)
+only-some true r c e = (tt, e)
+only-some false r c e = absurd (none-some c e)
+
+pub plus-some : (a : ℕ) (r : Option ℕ) (c : ℕ) → plus a r ≡ some c → (d : ℕ) × (r ≡ some d) × (c ≡ a + d)
+plus-some a none c e = absurd (none-some c e)
+plus-some a (some d) c e = (d, refl, sym (some-eq _ _ e))
+
+-- ---- at most c is found
+
+abbrev pub Upto : ℕ → Option ℕ → Type 0
+Upto c none = ⊥
+Upto c (some d) = d ≤ c
+
+pub upto-only : (c : ℕ) (b : Bool) (r : Option ℕ) → Is b → Upto c r → Upto c (only b r)
+upto-only c true r t h = h
+upto-only c false r t h = absurd t
+
+pub upto-plus : (c a : ℕ) (r : Option ℕ) → Upto c r → Upto (a + c) (plus a r)
+upto-plus c a none p = p
+upto-plus c a (some d) p = omega arith
+
+pub upto-left : (c : ℕ) (a b : Option ℕ) → Upto c a → Upto c (lower a b)
+upto-left c none b p = absurd p
+upto-left c (some a) none p = p
+upto-left c (some a) (some b) p = omega arith
+
+pub upto-right : (c : ℕ) (a b : Option ℕ) → Upto c b → Upto c (lower a b)
+upto-right c none b p = p
+upto-right c (some a) none p = absurd p
+upto-right c (some a) (some b) p = omega arith

@@ -1,0 +1,55 @@
+-- The table's entries: where the pair (L; k) stands, and what stands there.
+use mathlib.Core.List.{List, [], _∷_}
+use mathlib.Core.Option.{Option}
+use Prim.Native.Nat.{ℕ, zero, suc, pred, _+_, _*_, _/_, _%_}
+use Rattle.sequencing.specs.Problem.{Problem}
+use Rattle.sequencing.specs.States.{all}
+use Rattle.sequencing.specs.Recursion.{value}
+
+-- the product of all (c_j + 1)
+unfoldable pub size : List ℕ → ℕ
+size [] = 1
+size (c ∷ cs) = suc c * size cs
+
+-- k_1 + (c_1 + 1) × (k_2 + (c_2 + 1) × (k_3 + ..))
+unfoldable pub index : List ℕ → List ℕ → ℕ
+index [] k = 0
+index (c ∷ cs) [] = 0
+index (c ∷ cs) (a ∷ k) = a + suc c * index cs k
+
+-- the k whose index is i
+unfoldable pub digits : List ℕ → ℕ → List ℕ
+digits [] i = []
+digits (c ∷ cs) i = (i % suc c) ∷ digits cs (i / suc c)
+
+-- what one job of kind x counts for in an index: (c_1 + 1) × .. × (c_(x−1) + 1)
+unfoldable pub stride : List ℕ → ℕ → ℕ
+stride cs zero = 0
+stride [] (suc i) = 0
+stride (c ∷ cs) (suc zero) = 1
+stride (c ∷ cs) (suc (suc i)) = suc c * stride cs (suc i)
+
+module _ (P : Problem) where
+  -- 01's P
+  abbrev pub block : ℕ
+  block = size (all P)
+
+  -- 01's N × P
+  abbrev pub entries : ℕ
+  entries = P .N * block
+
+  -- where (L; k) stands, by 01's formula: (L − 1) × P + k_1 + (K_1 + 1) × (k_2 + ..)
+  unfoldable pub number : ℕ → List ℕ → ℕ
+  number L k = pred L * block + index (all P) k
+
+  -- L of the pair whose entry is n
+  unfoldable pub entryKind : ℕ → ℕ
+  entryKind n = suc (n / block)
+
+  -- k of that pair
+  unfoldable pub entryLeft : ℕ → List ℕ
+  entryLeft n = digits (all P) (n % block)
+
+  -- what entry n holds: its pair's value, and none (01: 2^64 − 1) where that is none, so also where k_L = K_L
+  abbrev pub entry : ℕ → Option ℕ
+  entry n = value P (entryKind n) (entryLeft n)

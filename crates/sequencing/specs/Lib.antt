@@ -1,0 +1,11 @@
+pub mod Lists
+pub mod Problem
+pub mod Orders
+pub mod States
+pub mod Least
+pub mod Recursion
+pub mod Feasible
+pub mod Ties
+pub mod Entries
+pub mod Counts
+pub mod Limits

@@ -1,0 +1,19 @@
+-- Bounds on gaps and weights, and the number that bounds every value under them.
+use Prim.Native.Nat.{ℕ, zero, suc, _+_, _*_, _≤_}
+use Rattle.sequencing.specs.Problem.{Problem}
+
+-- no gap above g and no weight above w, for the kinds of 1 to N
+pub record Limits (P : Problem) (g w : ℕ) : Type 0 where
+  pub start : P .start ≤ P .N
+  pub gaps : (i j : ℕ) → i ≤ P .N → 1 ≤ j → j ≤ P .N → P .gap i j ≤ g
+  pub weights : (j : ℕ) → 1 ≤ j → j ≤ P .N → P .weight j ≤ w
+  pub positive : 1 ≤ w
+
+-- 1 + 2 + .. + n
+unfoldable pub triangle : ℕ → ℕ
+triangle zero = 0
+triangle (suc n) = suc n + triangle n
+
+-- 1000 × 65535 × (1 + 2 + .. + 60): weights, gaps and jobs at 01's bounds
+abbrev pub valueLimit : ℕ
+valueLimit = 1000 * 65535 * 1830

@@ -1,0 +1,36 @@
+-- The queue of document 01, without its bounds and with any place rule.
+use mathlib.Core.Bool.{Bool}
+use mathlib.Core.List.{List}
+use mathlib.Core.Path.{_≡_}
+use Prim.Native.Nat.{ℕ, _≤_, _<_}
+use lib.Dec.{T as Is}
+use lib.ListN.{length}
+use Rattle.sequencing.specs.Lists.{at}
+
+-- 01's N; the jobs' kinds by hand-in; s; gap(i, j); the goal; w_j (pupils waiting); and whether job i is permitted at place p
+pub record Problem : Type 0 where
+  pub N : ℕ
+  pub jobs : List ℕ
+  pub start : ℕ
+  pub gap : ℕ → ℕ → ℕ
+  pub goal : ℕ
+  pub weight : ℕ → ℕ
+  pub ok : ℕ → ℕ → Bool
+
+module _ (P : Problem) where
+  -- 01's T
+  abbrev pub T : ℕ
+  T = length (P .jobs)
+
+  -- the kind of job i
+  abbrev pub kind : ℕ → ℕ
+  kind i = at (P .jobs) i
+
+  -- each job has a kind of 1 to N
+  abbrev pub Proper : Type 0
+  Proper = (i : ℕ) → 1 ≤ i → i ≤ T → (1 ≤ kind i) × (kind i ≤ P .N)
+
+  -- the exchange law: two jobs of one kind, permitted with the later one first, are permitted by hand-in too
+  abbrev pub Exchange : Type 0
+  Exchange =
+      (i i′ p p′ : ℕ) → 1 ≤ i → i < i′ → i′ ≤ T → kind i ≡ kind i′ → p < p′ → Is (P .ok i p′) → Is (P .ok i′ p) → Is (P .ok i p) × Is (P .ok i′ p′)
