@@ -5,11 +5,11 @@ use mathlib.Core.Path.{_≡_, refl, sym, ap, _∙_, subst₂}
 use mathlib.Core.Bool.{Bool, true}
 use mathlib.Core.List.{List, [], _∷_, _++_, flatMap, append-assoc}
 use native.Mathlib.Omega.{arith}
-use native.Mathlib.Nat.{add-assoc, suc-mul}
+use native.Mathlib.Nat.{suc-mul}
 use lib.ListN.{length, getD, drop, length-append}
 use lib.Seq.{drop-drop, drop-append-seam}
 use Rattle.refusal.specs.declared.Reason.{Reason}
-use Rattle.number.specs.Readers.{Found, found, Reader, andThen, times}
+use Rattle.number.specs.Readers.{found, Reader, andThen, times}
 use Rattle.number.specs.Numbers.{number, encode}
 use Rattle.number.proofs.Steps.{went-on, found-value, found-next}
 use Rattle.number.proofs.RoundTrip.{number-written, number-read}

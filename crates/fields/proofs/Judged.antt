@@ -1,17 +1,17 @@
 -- What a judged number is.
 -- Assumes nothing.
 use Prim.Native.Nat.{ℕ, _<_, _≤_}
-use mathlib.Core.Path.{_≡_, refl, sym, ap, _∙_}
+use mathlib.Core.Path.{_≡_, refl, ap, _∙_}
 use mathlib.Core.Bool.{Bool, true, false, cond, _&&_, false≢true}
 use mathlib.Core.Logic.{inl, inr}
 use mathlib.Core.List.{List}
 use native.Mathlib.Omega.{arith}
 use lib.Dec.{leb}
-use borrow.Author.Tests.{le-leb, lt-leb, leb-true, leb-false}
+use borrow.Author.Tests.{le-leb, lt-leb, leb-true}
 use Rattle.refusal.specs.declared.Reason.{Reason}
-use Rattle.number.specs.Readers.{Found, found, refused, andThen}
+use Rattle.number.specs.Readers.{Found, found, refused}
 use Rattle.number.specs.Numbers.{number}
-use Rattle.number.proofs.Steps.{went-on, passed, found-value, found-next, bool-cases}
+use Rattle.number.proofs.Steps.{went-on, passed, found-value, bool-cases}
 use Rattle.fields.specs.declared.Field.the-variants.{Value, Refused}
 use Rattle.fields.specs.declared.Outcome.the-variants.{Next, Refused as Stopped}
 use Rattle.fields.specs.Fields.{field, within}

@@ -7,15 +7,15 @@ use mathlib.Core.List.{List, [], _∷_}
 use native.Mathlib.Omega.{arith}
 use native.Mathlib.Nat.{suc-mul}
 use lib.Dec.{ltb}
-use lib.ListN.{length, take, drop}
+use lib.ListN.{take, drop}
 use lib.Seq.{take-take}
 use Rattle.refusal.specs.declared.Reason.{Reason}
 use Rattle.number.specs.Readers.{Found, found, refused, Reader, andThen, times}
-use Rattle.number.specs.Numbers.{above, last, groupsAt, number, encode}
+use Rattle.number.specs.Numbers.{above, last, groupsAt, number}
 use Rattle.number.proofs.Steps.{went-on, found-next}
 use Rattle.number.proofs.Encoding.{length-encode}
 use Rattle.fields.specs.Fields.{field}
-use Rattle.fields.proofs.Codecs.{Bytes, Stand, field-codec}
+use Rattle.fields.proofs.Codecs.{Bytes, field-codec}
 
 -- a value ends at most w bytes on; r bytes decide what is found
 pub record Local {A : Type 0} (one : Reader A) (w r : ℕ) : Type 0 where

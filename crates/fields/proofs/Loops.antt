@@ -6,7 +6,7 @@ use mathlib.Core.List.{List, [], _∷_}
 use native.Mathlib.Omega.{arith}
 use native.Mathlib.Numerals.{add-one}
 use Rattle.refusal.specs.declared.Reason.{Reason}
-use Rattle.number.specs.Readers.{Found, found, refused, Reader, andThen, times}
+use Rattle.number.specs.Readers.{found, refused, Reader, times}
 use Rattle.number.proofs.Steps.{went-on, found-value, found-next}
 use Rattle.fields.specs.declared.Outcome.the-variants.{Next, Refused as Stopped}
 use Rattle.fields.specs.Answers.{asOutcome}

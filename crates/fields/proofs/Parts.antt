@@ -6,7 +6,7 @@ use mathlib.Core.Bool.{Bool, true, false, _&&_}
 use mathlib.Core.List.{List, [], _∷_, _++_, flatMap}
 use native.Mathlib.Omega.{arith}
 use native.Mathlib.Nat.{add-zero, add-assoc}
-use lib.ListN.{length, getD, take, drop, set, length-append}
+use lib.ListN.{length, getD, set, length-append}
 use lib.Seq.{sets, length-sets, drop-cons}
 use Rattle.number.specs.Numbers.{encode}
 use Rattle.fields.specs.Fields.{all, part, encodeAll}

@@ -4,16 +4,14 @@ use Prim.Native.Nat.{ℕ, zero, suc, _+_, _-_, _<_, _≤_}
 use mathlib.Core.Path.{_≡_, refl, sym, ap, _∙_}
 use mathlib.Core.List.{List, [], _∷_}
 use native.Mathlib.Omega.{arith}
-use native.Mathlib.Numerals.{add-one}
-use native.Mathlib.Nat.{add-suc, add-zero}
+use native.Mathlib.Nat.{add-zero}
 use lib.ListN.{length, set, length-set}
 use lib.Seq.{sets}
 use Rattle.refusal.specs.declared.Reason.{Reason}
 use Rattle.number.specs.Readers.{Found, found, refused, Reader, andThen, times}
-use Rattle.number.proofs.Steps.{went-on, found-value, found-next}
-use Rattle.fields.specs.declared.Outcome.{Outcome}
+use Rattle.number.proofs.Steps.{went-on, found-value}
 use Rattle.fields.specs.declared.Outcome.the-variants.{Next, Refused as Stopped}
-use Rattle.fields.specs.Fields.{onward, readBefore}
+use Rattle.fields.specs.Fields.{readBefore}
 use Rattle.fields.specs.Answers.{asOutcome}
 
 -- a step that goes on does not change how the run ends

@@ -1,5 +1,5 @@
 -- What every message has: its two ends, the checks of a record that is to be written, and the buffer that it is written to.
-use Prim.Native.Nat.{ℕ, _+_}
+use Prim.Native.Nat.{ℕ}
 use mathlib.Core.Bool.{Bool, cond, _&&_}
 use mathlib.Core.List.{List}
 use lib.Dec.{leb, ltb, eqb}
@@ -11,7 +11,7 @@ use Rattle.refusal.specs.declared.Verdict.{Verdict}
 use Rattle.refusal.specs.declared.Verdict.the-variants.{Accepted, Refused}
 use Rattle.refusal.specs.declared.Written.{Written}
 use Rattle.refusal.specs.declared.Written.the-variants.{Bytes, Refused as NotWritten}
-use Rattle.number.specs.Readers.{Found, found, refused, Reader}
+use Rattle.number.specs.Readers.{found, refused, Reader}
 
 -- the first two bytes are a and b
 unfoldable pub opens : ℕ → ℕ → List ℕ → Bool

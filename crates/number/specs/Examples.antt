@@ -1,7 +1,6 @@
 -- Case I of 01, of one number: 00 is 0; 80 00 gives 3; 81 at the end 2; FF FF 03 is 65535; 80 80 04 is 65536.
-use Prim.Native.Nat.{ℕ}
 use mathlib.Core.Path.{_≡_, refl}
-use mathlib.Core.List.{List, [], _∷_}
+use mathlib.Core.List.{[], _∷_}
 use Rattle.refusal.specs.declared.Reason.the-variants.{Ends, Malformed}
 use Rattle.number.specs.Readers.{found, refused}
 use Rattle.number.specs.Numbers.{groupsAt, groups, number, encode}

@@ -4,7 +4,6 @@ use mathlib.Core.List.{List, [], _∷_}
 use mathlib.Core.Bool.{Bool, true, false, cond}
 use lib.ListN.{drop}
 use lib.Dec.{ltb, eqb}
-use Rattle.refusal.specs.declared.Reason.{Reason}
 use Rattle.refusal.specs.declared.Reason.the-variants.{Ends, Malformed}
 use Rattle.number.specs.Readers.{Found, found, refused, Reader}
 

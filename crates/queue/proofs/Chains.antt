@@ -1,7 +1,7 @@
 -- What each part of the reader finds, from what its steps found.
 -- Assumes nothing.
 use Prim.Native.Nat.{ℕ, _+_}
-use mathlib.Core.Path.{_≡_, refl}
+use mathlib.Core.Path.{_≡_}
 use mathlib.Core.Bool.{true, false}
 use mathlib.Core.List.{List, map}
 use native.Mathlib.Omega.{arith}
@@ -16,7 +16,6 @@ use Rattle.fields.specs.Lists.{filled}
 use Rattle.fields.specs.Messages.{opens}
 use Rattle.queue.specs.declared.Queue.{Queue}
 use Rattle.queue.specs.declared.Settings.{Settings}
-use Rattle.queue.specs.declared.Head.{Head}
 use Rattle.queue.specs.Reading.{window, placed, settings, headOf, tables, head, withJobs, jobs, closed, queue}
 use Rattle.queue.specs.Answers.{asHead}
 use Rattle.queue.proofs.Loops.{gapField}

@@ -1,8 +1,8 @@
 -- What the answers of the reader's parts say of the definitions', and when a window is good.
 -- Assumes nothing.
 use Prim.Native.Nat.{ℕ, _<_, _≤_}
-use mathlib.Core.Path.{_≡_, refl, ap}
-use mathlib.Core.Bool.{Bool, true, false, _&&_}
+use mathlib.Core.Path.{_≡_}
+use mathlib.Core.Bool.{true, false, _&&_}
 use mathlib.Core.Logic.{inl, inr}
 use native.Mathlib.Omega.{arith}
 use lib.Dec.{leb}

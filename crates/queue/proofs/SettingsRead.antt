@@ -2,7 +2,6 @@
 -- Assumes nothing.
 use Prim.Native.Nat.{ℕ, _≤_}
 use mathlib.Core.Path.{_≡_, subst}
-use mathlib.Core.Bool.{true}
 use mathlib.Core.List.{List}
 use Rattle.refusal.specs.declared.Reason.the-variants.{Kinds, Goal, Shift, Start}
 use Rattle.number.specs.Readers.{found}

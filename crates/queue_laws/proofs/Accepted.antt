@@ -1,29 +1,29 @@
 -- An accepted message is its contents' bytes and no others, and its contents' bytes are accepted.
 -- Assumes nothing.
-use Prim.Native.Nat.{ℕ, _+_, _≤_, _<_}
-use mathlib.Core.Path.{_≡_, refl, sym, ap, _∙_, subst}
+use Prim.Native.Nat.{ℕ, _+_, _≤_}
+use mathlib.Core.Path.{_≡_, ap, _∙_}
 use mathlib.Core.Bool.{true}
 use mathlib.Core.List.{List, [], _∷_, _++_, flatMap, append-assoc, append-nil}
 use native.Mathlib.Omega.{arith}
 use lib.Dec.{eqb}
-use lib.ListN.{length, drop, length-append}
+use lib.ListN.{length, drop}
 use lib.Seq.{drop-length}
-use borrow.Author.Tests.{eq-eqb, eqb-true}
+use borrow.Author.Tests.{eqb-true}
 use Rattle.refusal.specs.declared.Reason.the-variants.{Edition, Gap, Weight, Jobs, Kind, Trailing}
 use Rattle.number.specs.Readers.{found, andThen, times}
 use Rattle.number.specs.Numbers.{encode}
 use Rattle.number.proofs.Steps.{went-on, passed, found-value, found-next}
 use Rattle.fields.specs.Fields.{field, within, encodeAll}
 use Rattle.fields.specs.Messages.{opens, opening, end}
-use Rattle.fields.proofs.Codecs.{Bytes, Stand, Codec, stand-append, past, bounded-codec, times-codec}
-use Rattle.fields.proofs.Openings.{opens-bytes, opens-both}
+use Rattle.fields.proofs.Codecs.{Bytes, Stand, Codec, stand-append, bounded-codec, times-codec}
+use Rattle.fields.proofs.Openings.{opens-bytes}
 use Rattle.queue.specs.declared.Queue.{Queue}
 use Rattle.queue.specs.declared.Settings.{Settings}
 use Rattle.queue.specs.Reading.{window, settings, headOf, tables, head, withJobs, jobs, closed, queue}
 use Rattle.queue.proofs.Loops.{gapField}
-use Rattle.queue.proofs.Chains.{weightField, kindField, rowsAt, all-tables, the-head, all-jobs, the-queue}
+use Rattle.queue.proofs.Chains.{weightField, kindField, rowsAt}
 use Rattle.queue.proofs.SettingsRead.{SettingsOk}
-use Rattle.queue_laws.proofs.Contents.{RowsOk, WeightsOk, WindowOk, WindowsOk, KindsOk, Contents, ContentsOk, recordOf}
+use Rattle.queue_laws.proofs.Contents.{RowsOk, WeightsOk, WindowsOk, KindsOk, Contents, ContentsOk, recordOf}
 use Rattle.queue_laws.proofs.Pieces.{windowBytes, window-codec, settingsBytes, settings-codec}
 
 -- the bytes of a message's contents, in message order

@@ -1,11 +1,11 @@
 -- What a message holds, and the record that it is read to.
 -- Assumes nothing.
-use Prim.Native.Nat.{ℕ, _+_, _≤_, _<_}
-use mathlib.Core.Path.{_≡_, refl, sym, ap, _∙_}
+use Prim.Native.Nat.{ℕ, _+_, _≤_}
+use mathlib.Core.Path.{_≡_, sym, ap, _∙_}
 use mathlib.Core.List.{List, map}
 use native.Mathlib.Omega.{arith}
-use lib.ListN.{length, length-map, getD}
-use Rattle.fields.specs.Lists.{tabulate, filled}
+use lib.ListN.{length, length-map}
+use Rattle.fields.specs.Lists.{tabulate}
 use Rattle.fields.proofs.Codecs.{All, all-map}
 use Rattle.fields.proofs.Tables.{tabulate-all}
 use Rattle.fields.proofs.Arrays.{tabulate-filled, tabulate-pairs}

@@ -1,23 +1,20 @@
 -- The pieces of a message as codecs: windows, settings, tables and jobs, each read and written both ways.
 -- Assumes nothing.
-use Prim.Native.Nat.{ℕ, _+_, _^_, _≤_, _<_}
-use mathlib.Core.Path.{_≡_, refl, sym, ap, _∙_, subst}
-use mathlib.Core.List.{List, _++_, flatMap, append-assoc}
+use Prim.Native.Nat.{ℕ, _+_}
+use mathlib.Core.Path.{_≡_, ap, _∙_, subst}
+use mathlib.Core.List.{List, _++_, append-assoc}
 use native.Mathlib.Omega.{arith}
 use lib.ListN.{length, drop, length-append}
-use Rattle.refusal.specs.declared.Reason.the-variants.{Kinds, Goal, Shift, Start, Gap, Weight, Window, Jobs, Kind}
-use Rattle.number.specs.Readers.{found, times}
+use Rattle.refusal.specs.declared.Reason.the-variants.{Kinds, Goal, Shift, Start, Window}
+use Rattle.number.specs.Readers.{found}
 use Rattle.number.specs.Numbers.{number, encode}
 use Rattle.number.proofs.Steps.{went-on, found-value, found-next}
-use Rattle.fields.specs.Fields.{field, within, encodeAll}
-use Rattle.fields.proofs.Codecs.{Bytes, Stand, All, Codec, stand-append, past, number-codec, field-codec, bounded-codec, times-codec}
-use Rattle.queue.specs.declared.Queue.{Queue}
+use Rattle.fields.specs.Fields.{field, within}
+use Rattle.fields.proofs.Codecs.{Bytes, Stand, Codec, stand-append, past, number-codec, field-codec, bounded-codec}
 use Rattle.queue.specs.declared.Settings.{Settings}
 use Rattle.queue.specs.Record.{windowOk}
-use Rattle.queue.specs.Reading.{window, settings, headOf, tables, withJobs, jobs}
+use Rattle.queue.specs.Reading.{window, settings}
 use Rattle.queue.proofs.Parts.{window-good, good-window}
-use Rattle.queue.proofs.Loops.{gapField}
-use Rattle.queue.proofs.Chains.{weightField, kindField, rowsAt, all-tables}
 use Rattle.queue.proofs.SettingsRead.{SettingsOk, settings-ok}
 use Rattle.queue_laws.proofs.Contents.{WindowOk}
 

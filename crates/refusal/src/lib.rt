@@ -1,6 +1,6 @@
 // Document 01's refusals: the one vocabulary of reasons, their numbers, and the group that the program prints.
 ghost use mathlib.Core.Path.{_≡_};
-ghost use Rattle.refusal.specs.Reasons.{reasonNumber, needed, reasonGroup, numberGroup};
+ghost use Rattle.refusal.specs.Reasons.{reasonNumber, reasonGroup, numberGroup};
 
 // Why a call is refused: one case for each row of 01's table of checks, in its order, 1 to 18.
 pub enum Reason {

@@ -1,6 +1,5 @@
 -- `fields::has_opening` meets its contract: each test decides its part.
 -- Assumes nothing.
-use native.Mathlib.Omega.{arith}
 use Rattle.fields.proofs.Openings.{opens-short, opens-first, opens-second, opens-both}
 use borrow.Author.Needs.{needs}
 use Rattle.fields.proofs.has_opening.Statement.{statement}

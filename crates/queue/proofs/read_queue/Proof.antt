@@ -6,7 +6,6 @@ use Rattle.fields.specs.Fields.{field, within}
 use Rattle.fields.proofs.Judged.{as-value, as-refused}
 use Rattle.queue.specs.declared.Head.{Head}
 use Rattle.queue.specs.Reading.{head, asReading, readQueue}
-use Rattle.queue.specs.Answers.{asHead}
 use Rattle.queue.proofs.Chains.{no-opening, no-edition, no-head, the-queue, as-head, as-no-head}
 use borrow.Author.Needs.{needs}
 use Rattle.queue.proofs.read_queue.Statement.{statement}

@@ -6,8 +6,6 @@ use lib.Seq.{sets}
 use Rattle.number.specs.Readers.{times}
 use Rattle.fields.proofs.Judged.{as-next, as-stopped}
 use Rattle.fields.proofs.Runs.{before-found}
-use Rattle.fields.specs.declared.Outcome.the-variants.{Next}
-use Rattle.queue.specs.declared.Queue.{Queue}
 use Rattle.queue.specs.Reading.{window}
 use Rattle.queue.specs.Answers.{asHead, headAs}
 use Rattle.queue.proofs.Chains.{weightField, rowsAt, no-rows, no-weights, no-windows, all-tables, head-is}

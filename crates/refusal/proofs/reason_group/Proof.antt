@@ -1,6 +1,6 @@
 -- `refusal::reason_group` meets its contract: a refusal's group is its number's.
 -- Assumes nothing.
-use mathlib.Core.Path.{_≡_, refl, sym, ap, _∙_}
+use mathlib.Core.Path.{_≡_, refl, ap, _∙_}
 use borrow.Author.Needs.{needs}
 use Rattle.refusal.specs.declared.Reason.{Reason}
 use Rattle.refusal.specs.declared.Reason.the-variants.{Opening, Ends, Malformed, Edition, Kinds, Goal, Shift, Start, Gap, Weight, Window, Jobs, Kind, Trailing, Buffer, Table, Order, Job}

@@ -1,0 +1,61 @@
+-- The jobs of a record as a list, and the record that holds a list.
+-- Assumes nothing.
+use Prim.Native.Nat.{ℕ, zero, suc, _+_, _-_, _<_, _≤_}
+use mathlib.Core.Path.{_≡_, sym, ap, _∙_}
+use mathlib.Core.List.{List}
+use native.Mathlib.Omega.{arith}
+use native.Mathlib.Nat.{zero-add, add-zero}
+use lib.ListN.{length, getD}
+use Rattle.fields.specs.Fields.{part}
+use Rattle.fields.specs.Lists.{tabulate}
+use Rattle.fields.proofs.Tables.{length-tabulate, tabulate-ext, tabulate-part}
+use Rattle.fields.proofs.Arrays.{tabulate-filled, filled-past}
+use Rattle.plan.specs.declared.Plan.{Plan}
+use Rattle.plan.specs.Record.{job, jobList}
+use Rattle.plan.specs.Reading.{planOf, cleared}
+use Rattle.plan.specs.Writing.{message}
+
+getD-tabulate : (f : ℕ → ℕ) (i n k : ℕ) → k < n → getD (tabulate f i n) k 0 ≡ f (i + k)
+unfolding tabulate
+getD-tabulate f i zero k h = absurd (omega arith)
+getD-tabulate f i (suc n) zero h = ap f (sym (add-zero i))
+getD-tabulate f i (suc n) (suc k) h = getD-tabulate f (suc i) n k (omega arith) ∙ ap f (omega arith)
+
+pub job-listed : (p : Plan) (place : ℕ) → 1 ≤ place → place ≤ p .jobs → getD (jobList p) (place - 1) 0 ≡ job p place
+job-listed p place l u =
+    let e : 1 + (place - 1) ≡ place = omega arith in
+    getD-tabulate (job p) 1 (p .jobs) (place - 1) (omega arith) ∙ ap (job p) e
+
+pub job-list-length : (p : Plan) → length (jobList p) ≡ p .jobs
+job-list-length p = length-tabulate (job p) 1 (p .jobs)
+
+-- where the array holds them all, the front of the array
+pub job-list-part : (p : Plan) → p .jobs ≤ length (p .order) → jobList p ≡ part 0 (p .jobs) (p .order)
+job-list-part p h =
+    tabulate-ext (job p) (λ j. getD (p .order) (0 + (j - 1)) 0) 1 (p .jobs) (λ k _ _. ap (λ (i : ℕ). getD (p .order) i 0) (sym (zero-add (k - 1))))
+    ∙ tabulate-part (p .order) 0 (p .jobs) (omega arith)
+
+-- a record that holds a list of jobs holds no others
+pub held : (goal cost states t : ℕ) (js : List ℕ) → length js ≡ t → t ≤ 60 → jobList (planOf goal cost states t js) ≡ js
+held goal cost states t js e h =
+    ap (λ (n : ℕ). tabulate (job (planOf goal cost states t js)) 1 n) (sym e) ∙ tabulate-filled 60 js (omega arith)
+
+-- ---- 0 past T
+
+module _ (p : Plan) (few : p .jobs ≤ 60) where
+  pub cleared-list : jobList (cleared p) ≡ jobList p
+  cleared-list = held (p .goal) (p .cost) (p .«feasible_states») (p .jobs) (jobList p) (job-list-length p) few
+
+  -- a record and what reading its message gives agree up to T ..
+  pub cleared-agrees : (place : ℕ) → 1 ≤ place → place ≤ p .jobs → job (cleared p) place ≡ job p place
+  cleared-agrees place l u =
+      sym (job-listed (cleared p) place l u) ∙ ap (λ (js : List ℕ). getD js (place - 1) 0) cleared-list ∙ job-listed p place l u
+
+  -- .. and the latter holds 0 past T
+  pub cleared-past : (place : ℕ) → p .jobs < place → job (cleared p) place ≡ 0
+  cleared-past place h = filled-past 60 (jobList p) (place - 1) (omega (arith, job-list-length p))
+
+  -- what stands past T makes no difference to the message
+  pub cleared-message : message (cleared p) ≡ message p
+  unfolding message
+  cleared-message = rw cleared-list

@@ -1,0 +1,108 @@
+-- A record is judged well exactly when it is valid.
+-- Assumes nothing.
+use Prim.Native.Nat.{ℕ, _+_, _-_, _^_, _<_, _≤_}
+use mathlib.Core.Path.{_≡_, refl, sym, ap, _∙_}
+use mathlib.Core.Bool.{Bool, true, false}
+use mathlib.Core.List.{List, []}
+use native.Mathlib.Omega.{arith}
+use lib.ListN.{length, getD, take}
+use lib.Seq.{getD-take, length-take-le}
+use borrow.Author.Tests.{not-true}
+use Rattle.refusal.specs.declared.Reason.{Reason}
+use Rattle.refusal.specs.declared.Reason.the-variants.{Malformed, Goal, Jobs, Job}
+use Rattle.refusal.specs.declared.Verdict.{Verdict}
+use Rattle.refusal.specs.declared.Verdict.the-variants.{Accepted}
+use Rattle.fields.specs.Fields.{within}
+use Rattle.fields.specs.Messages.{check}
+use Rattle.fields.proofs.Judged.{and-true, within-true, true-within}
+use Rattle.plan.specs.declared.Plan.{Plan}
+use Rattle.plan.specs.Record.{standsIn, fresh, job, jobList, Valid}
+use Rattle.plan.specs.Writing.{allFresh, judge}
+use Rattle.plan.proofs.Fresh.{stands-nowhere, nowhere-stands, fresh-places, places-fresh}
+use Rattle.plan.proofs.JobLists.{job-listed, job-list-length}
+
+-- 01's bounds on a plan's numbers and its list of jobs
+pub record Bounded (goal cost states t : ℕ) (js : List ℕ) : Type 0 where
+  pub goals : (1 ≤ goal) × (goal ≤ 2)
+  pub costs : cost < 2 ^ 42
+  pub counts : states < 2 ^ 42
+  pub few : t ≤ 60
+  pub each : allFresh t [] js ≡ true
+
+module _ (p : Plan) where
+  abbrev t : ℕ
+  t = p .jobs
+
+  abbrev js : List ℕ
+  js = jobList p
+
+  same-place : (k : ℕ) → k < t → getD js k 0 ≡ job p (k + 1)
+  same-place k h = let e : k + 1 - 1 ≡ k = omega arith in ap (λ (i : ℕ). getD js i 0) (sym e) ∙ job-listed p (k + 1) (omega arith) (omega arith)
+
+  pub valid-bounded : Valid p → Bounded (p .goal) (p .cost) (p .«feasible_states») (p .jobs) (jobList p)
+  valid-bounded v = record {
+    goals = v .goal;
+    costs = v .cost;
+    counts = v .states;
+    few = v .jobs;
+    each = places-fresh t [] js (λ i h.
+        let u : i < t = omega (arith, job-list-length p) in
+        let r = v .in-range (i + 1) (omega arith) (omega arith) in
+        let here = same-place i u in
+        let size : length (take i js) ≡ i = length-take-le i js (omega arith) in
+        let once : standsIn (getD js i 0) (take i js) ≡ false = nowhere-stands (getD js i 0) (take i js) (λ k l q.
+        v .once (k + 1) (i + 1) (omega arith) (omega arith) (omega arith)
+        (sym (same-place k (omega arith)) ∙ sym (getD-take i js k 0 (omega arith)) ∙ q ∙ here)) in
+        rw (true-within 1 t (getD js i 0) (rw here (r .0)) (rw here (r .1)), once));
+  }
+
+  pub bounded-valid : Bounded (p .goal) (p .cost) (p .«feasible_states») (p .jobs) (jobList p) → Valid p
+  bounded-valid b =
+      let size = job-list-length p in
+      let fresh-at : (i : ℕ) → i < t → fresh t (take i js) (getD js i 0) ≡ true = λ i h. fresh-places t [] js i (b .each) (omega arith) in
+      record {
+        goal = b .goals;
+        cost = b .costs;
+        states = b .counts;
+        jobs = b .few;
+        in-range = λ place l u.
+            rw (job-listed p place l u) at
+            (within-true 1 t (getD js (place - 1) 0) (and-true _ _ (fresh-at (place - 1) (omega arith)) .0));
+        once = λ place later l m u q.
+            stands-nowhere (getD js (later - 1) 0) (take (later - 1) js) (place - 1)
+            (not-true _ (and-true (within 1 t (getD js (later - 1) 0)) _ (fresh-at (later - 1) (omega arith)) .1))
+            (rw (length-take-le (later - 1) js (omega arith)) (omega arith))
+            (getD-take (later - 1) js (place - 1) 0 (omega arith) ∙ job-listed p place l (omega arith) ∙ q ∙ sym (job-listed p later (omega arith) u));
+      }
+
+passed-check : (ok : Bool) (why : Reason) (more : Verdict) → check ok why more ≡ Accepted → (ok ≡ true) × (more ≡ Accepted)
+passed-check true why more e = (refl, e)
+passed-check false why more e = let z : _≡_ {A = ℕ} 0 1 = cc in absurd (omega arith)
+
+pub judged-valid : (p : Plan) → judge p ≡ Accepted → Valid p
+unfolding judge
+judged-valid p e =
+    let (g, e1) = passed-check (within 1 2 (p .goal)) Goal _ e in
+    let (c, e2) = passed-check (within 0 (2 ^ 42 - 1) (p .cost)) Malformed _ e1 in
+    let (s, e3) = passed-check (within 0 (2 ^ 42 - 1) (p .«feasible_states»)) Malformed _ e2 in
+    let (j, e4) = passed-check (within 0 60 (p .jobs)) Jobs _ e3 in
+    let (o, _) = passed-check (allFresh (p .jobs) [] (jobList p)) Job _ e4 in
+    bounded-valid p (record {
+      goals = within-true 1 2 (p .goal) g;
+      costs = omega (arith, within-true 0 (2 ^ 42 - 1) (p .cost) c);
+      counts = omega (arith, within-true 0 (2 ^ 42 - 1) (p .«feasible_states») s);
+      few = within-true 0 60 (p .jobs) j .1;
+      each = o;
+    })
+
+pub valid-judged : (p : Plan) → Valid p → judge p ≡ Accepted
+unfolding judge
+valid-judged p v =
+    let b = valid-bounded p v in
+    rw (
+      true-within 1 2 (p .goal) (b .goals .0) (b .goals .1),
+      true-within 0 (2 ^ 42 - 1) (p .cost) (omega arith) (omega (arith, b .costs)),
+      true-within 0 (2 ^ 42 - 1) (p .«feasible_states») (omega arith) (omega (arith, b .counts)),
+      true-within 0 60 (p .jobs) (omega arith) (b .few),
+      b .each,
+    )

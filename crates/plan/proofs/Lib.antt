@@ -1,0 +1,10 @@
+pub mod Standing
+pub mod Orders
+pub mod Fronts
+pub mod Whole
+pub mod Fresh
+pub mod JobLists
+pub mod Judging
+pub mod RoundTrip
+pub mod Theorems
+pub mod Refusals

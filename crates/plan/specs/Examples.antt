@@ -1,0 +1,87 @@
+-- The plans of 01's cases A and B, read and written; messages for each of the plan reader's refusals; records for the writer's.
+use Prim.Native.Nat.{ℕ, _^_}
+use mathlib.Core.Path.{_≡_, refl}
+use mathlib.Core.List.{List, [], _∷_, flatMap}
+use Rattle.refusal.specs.declared.Reason.the-variants.{Opening, Ends, Malformed, Edition, Goal, Jobs, Job, Trailing, Buffer}
+use Rattle.refusal.specs.declared.Verdict.the-variants.{Accepted, Refused}
+use Rattle.refusal.specs.declared.Written.the-variants.{Bytes, Refused as NotWritten}
+use Rattle.number.specs.Readers.{refused}
+use Rattle.number.specs.Numbers.{groupsAt, groups, encode}
+use Rattle.fields.specs.Lists.{tabulate}
+use Rattle.fields.specs.Messages.{opens}
+use Rattle.plan.specs.declared.Plan.{Plan}
+use Rattle.plan.specs.Record.{standsIn}
+use Rattle.plan.specs.Reading.{order, plan, planOf, asReading, readPlan}
+use Rattle.plan.specs.Writing.{message, allFresh, judge, writePlan}
+
+-- case A
+abbrev bytesA : List ℕ
+bytesA = 0x51 ∷ 0x50 ∷ 0x01 ∷ 0x01 ∷ 0x46 ∷ 0x07 ∷ 0x03 ∷ 0x02 ∷ 0x01 ∷ 0x03 ∷ []
+
+abbrev planA : Plan
+planA = planOf 1 70 7 3 (2 ∷ 1 ∷ 3 ∷ [])
+
+-- case B: A with goal 2
+abbrev bytesB : List ℕ
+bytesB = 0x51 ∷ 0x50 ∷ 0x01 ∷ 0x02 ∷ 0xC8 ∷ 0x01 ∷ 0x07 ∷ 0x03 ∷ 0x01 ∷ 0x03 ∷ 0x02 ∷ []
+
+abbrev planB : Plan
+planB = planOf 2 200 7 3 (1 ∷ 3 ∷ 2 ∷ [])
+
+pub examples :
+    (readPlan bytesA ≡ record { verdict = Accepted; plan = planA })
+    × (message planA ≡ bytesA)
+    × (readPlan bytesB ≡ record { verdict = Accepted; plan = planB })
+    × (message planB ≡ bytesB)
+    -- 1: no bytes, one byte, a queue's opening
+    × (readPlan [] ≡ asReading (refused Opening))
+    × (readPlan (0x51 ∷ []) ≡ asReading (refused Opening))
+    × (readPlan (0x51 ∷ 0x53 ∷ 0x01 ∷ 0x01 ∷ 0x46 ∷ 0x07 ∷ 0x00 ∷ []) ≡ asReading (refused Opening))
+    -- 2: the bytes end in the cost
+    × (readPlan (0x51 ∷ 0x50 ∷ 0x01 ∷ 0x01 ∷ 0xC8 ∷ []) ≡ asReading (refused Ends))
+    -- 3: an edition of two groups that ends in 00 is not judged
+    × (readPlan (0x51 ∷ 0x50 ∷ 0x81 ∷ 0x00 ∷ []) ≡ asReading (refused Malformed))
+    -- 4
+    × (readPlan (0x51 ∷ 0x50 ∷ 0x02 ∷ []) ≡ asReading (refused Edition))
+    -- 6
+    × (readPlan (0x51 ∷ 0x50 ∷ 0x01 ∷ 0x03 ∷ []) ≡ asReading (refused Goal))
+    -- 12: 61 jobs, before any job is read
+    × (readPlan (0x51 ∷ 0x50 ∷ 0x01 ∷ 0x01 ∷ 0x46 ∷ 0x07 ∷ 0x3D ∷ []) ≡ asReading (refused Jobs))
+    -- 18: a job twice; job 0; job 5 of 2, where the bytes end too early
+    × (readPlan (0x51 ∷ 0x50 ∷ 0x01 ∷ 0x01 ∷ 0x46 ∷ 0x07 ∷ 0x02 ∷ 0x01 ∷ 0x01 ∷ []) ≡ asReading (refused Job))
+    × (readPlan (0x51 ∷ 0x50 ∷ 0x01 ∷ 0x01 ∷ 0x46 ∷ 0x07 ∷ 0x02 ∷ 0x00 ∷ 0x01 ∷ []) ≡ asReading (refused Job))
+    × (readPlan (0x51 ∷ 0x50 ∷ 0x01 ∷ 0x01 ∷ 0x46 ∷ 0x07 ∷ 0x02 ∷ 0x05 ∷ []) ≡ asReading (refused Job))
+    -- 14: no jobs, and a byte
+    × (readPlan (0x51 ∷ 0x50 ∷ 0x01 ∷ 0x01 ∷ 0x46 ∷ 0x07 ∷ 0x00 ∷ 0x00 ∷ []) ≡ asReading (refused Trailing))
+    -- writing: 3 before 12, 15 last
+    × (judge (planOf 1 (2 ^ 42) 7 61 []) ≡ Refused Malformed)
+    × (judge (planOf 1 70 7 61 []) ≡ Refused Jobs)
+    × (judge (planOf 3 (2 ^ 42) 7 61 []) ≡ Refused Goal)
+    × (writePlan planA 77 ≡ Bytes 10)
+    × (writePlan planA 76 ≡ NotWritten Buffer)
+    × (writePlan (planOf 1 70 7 2 (1 ∷ 1 ∷ [])) 76 ≡ NotWritten Job)
+unfolding groupsAt groups encode opens tabulate flatMap standsIn order plan readPlan message allFresh judge writePlan
+examples = (
+  refl,
+  refl,
+  refl,
+  refl,
+  refl,
+  refl,
+  refl,
+  refl,
+  refl,
+  refl,
+  refl,
+  refl,
+  refl,
+  refl,
+  refl,
+  refl,
+  refl,
+  refl,
+  refl,
+  refl,
+  refl,
+  refl,
+)

@@ -1,0 +1,4 @@
+pub mod Testing
+pub mod Judging
+pub mod Filling
+pub mod Answering

@@ -1,0 +1,101 @@
+// The plan message's writer.
+use plan::Plan;
+use refusal::Reason;
+use refusal::Verdict;
+use refusal::Written;
+ghost use mathlib.Core.Path.{_≡_};
+ghost use mathlib.Core.List.{[]};
+ghost use Prim.Native.Nat.{_≤_};
+ghost use lib.ListN.{length, take};
+ghost use lib.Seq.{sets};
+ghost use Rattle.plan.specs.Writing.{message, allFresh, judge, writePlan, writtenPlan};
+ghost use Rattle.plan_writer.specs.Fronts.{frontBytes};
+
+// Whether each of the jobs is from 1 to `jobs` and stands at no earlier place.
+fn all_fresh(order: &[u32], jobs: u32) -> bool
+    requires { ⌜ jobs ≤ length (now order) ⌝ }
+    ensures { λ r. ⌜ r ≡ allFresh jobs [] (take jobs (now (order .entry))) ⌝ }
+{
+    let mut k: usize = 0;
+    while k < jobs as usize {
+        let job = order[k];
+        if job < 1 {
+            return false;
+        }
+        if jobs < job {
+            return false;
+        }
+        if plan::stands_in(order, k, job) {
+            return false;
+        }
+        k = k + 1;
+    }
+    true
+}
+
+// The record judged in message order.
+fn judge_plan(plan: Plan) -> Verdict
+    ensures { λ r. ⌜ r ≡ judge plan ⌝ }
+{
+    if plan.goal < 1 {
+        return Verdict::Refused(Reason::Goal);
+    }
+    if 2 < plan.goal {
+        return Verdict::Refused(Reason::Goal);
+    }
+    if 4398046511103 < plan.cost {
+        return Verdict::Refused(Reason::Malformed);
+    }
+    if 4398046511103 < plan.feasible_states {
+        return Verdict::Refused(Reason::Malformed);
+    }
+    if 60 < plan.jobs {
+        return Verdict::Refused(Reason::Jobs);
+    }
+    let order = plan.order;
+    if !all_fresh(&order, plan.jobs) {
+        return Verdict::Refused(Reason::Job);
+    }
+    Verdict::Accepted
+}
+
+// Writes all that stands before the jobs; returns the position behind it.
+fn write_front(buffer: &mut [u8], plan: Plan) -> usize
+    requires { ⌜ length (frontBytes plan) ≤ length (now buffer) ⌝ }
+    ensures { λ r. ⌜ r ≡ length (frontBytes plan) ⌝ }
+    ensures { λ _. ⌜ now (buffer .exit) ≡ sets (now (buffer .entry)) 0 (frontBytes plan) ⌝ }
+{
+    let a = fields::write_opening(buffer, b"QP");
+    let b = number::write_number(buffer, a, 1);
+    let c = number::write_number(buffer, b, plan.goal as u64);
+    let d = number::write_number(buffer, c, plan.cost);
+    let e = number::write_number(buffer, d, plan.feasible_states);
+    number::write_number(buffer, e, plan.jobs as u64)
+}
+
+// Writes the message of a record into a buffer that holds it; returns the number of its bytes.
+fn write_message(buffer: &mut [u8], plan: Plan) -> usize
+    requires { ⌜ (plan .jobs ≤ 60) × (length (message plan) ≤ length (now buffer)) ⌝ }
+    ensures { λ r. ⌜ r ≡ length (message plan) ⌝ }
+    ensures { λ _. ⌜ now (buffer .exit) ≡ sets (now (buffer .entry)) 0 (message plan) ⌝ }
+{
+    let at = write_front(buffer, plan);
+    let order = plan.order;
+    fields::write_run(buffer, at, &order, 0, plan.jobs as usize)
+}
+
+// Writes the message of a valid record; a refused record, or one for a buffer under 77 bytes, changes nothing.
+pub fn write_plan(buffer: &mut [u8], plan: Plan) -> Written
+    ensures { λ r. ⌜ r ≡ writePlan plan (length (now (buffer .entry))) ⌝ }
+    ensures { λ _. ⌜ now (buffer .exit) ≡ writtenPlan plan (now (buffer .entry)) ⌝ }
+{
+    match judge_plan(plan) {
+        Verdict::Refused(why) => Written::Refused(why),
+        Verdict::Accepted => {
+            if buffer.len() < 77 {
+                return Written::Refused(Reason::Buffer);
+            }
+            Written::Bytes(write_message(buffer, plan))
+        }
+    }
+}

@@ -1,0 +1,10 @@
+-- Counting through all k, k_1 fastest: the k whose index is one more.
+use Prim.Native.Nat.{ℕ, suc}
+use mathlib.Core.Bool.{cond}
+use mathlib.Core.List.{List, [], _∷_}
+use lib.Dec.{ltb}
+
+unfoldable pub next : List ℕ → List ℕ → List ℕ
+next [] k = []
+next (c ∷ cs) [] = []
+next (c ∷ cs) (a ∷ k) = cond (ltb a c) (suc a ∷ k) (0 ∷ next cs k)
