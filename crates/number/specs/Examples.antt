@@ -5,7 +5,8 @@ use Rattle.refusal.specs.declared.Reason.the-variants.{Ends, Malformed}
 use Rattle.number.specs.Readers.{found, refused}
 use Rattle.number.specs.Numbers.{groupsAt, groups, number, encode}
 
-pub examples :
+abbrev pub Examples : Type 0
+Examples =
     (number 3 (0x00 ∷ []) 0 ≡ found 0 1)
     × (number 3 (0x80 ∷ 0x00 ∷ []) 0 ≡ refused Malformed)
     × (number 3 (0x81 ∷ []) 0 ≡ refused Ends)
@@ -14,5 +15,7 @@ pub examples :
     × (number 3 (0x80 ∷ 0x80 ∷ 0x80 ∷ []) 0 ≡ refused Malformed)
     × (encode 65535 ≡ 0xFF ∷ 0xFF ∷ 0x03 ∷ [])
     × (encode 0 ≡ 0x00 ∷ [])
+
+pub examples : Examples
 unfolding groupsAt groups encode
 examples = (refl, refl, refl, refl, refl, refl, refl, refl)

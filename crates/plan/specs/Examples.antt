@@ -28,7 +28,8 @@ bytesB = 0x51 ∷ 0x50 ∷ 0x01 ∷ 0x02 ∷ 0xC8 ∷ 0x01 ∷ 0x07 ∷ 0x03 ∷
 abbrev planB : Plan
 planB = planOf 2 200 7 3 (1 ∷ 3 ∷ 2 ∷ [])
 
-pub examples :
+abbrev pub Examples : Type 0
+Examples =
     (readPlan bytesA ≡ record { verdict = Accepted; plan = planA })
     × (message planA ≡ bytesA)
     × (readPlan bytesB ≡ record { verdict = Accepted; plan = planB })
@@ -60,6 +61,8 @@ pub examples :
     × (writePlan planA 77 ≡ Bytes 10)
     × (writePlan planA 76 ≡ NotWritten Buffer)
     × (writePlan (planOf 1 70 7 2 (1 ∷ 1 ∷ [])) 76 ≡ NotWritten Job)
+
+pub examples : Examples
 unfolding groupsAt groups encode opens tabulate flatMap standsIn order plan readPlan message allFresh judge writePlan
 examples = (
   refl,

@@ -1,11 +1,11 @@
 -- What a message holds, and the record that it is read to.
 -- Assumes nothing.
-use Prim.Native.Nat.{ℕ, _+_, _≤_}
+use Prim.Native.Nat.{ℕ, _+_, _-_, _≤_}
 use mathlib.Core.Path.{_≡_, sym, ap, _∙_}
 use mathlib.Core.List.{List, map}
 use native.Mathlib.Omega.{arith}
-use lib.ListN.{length, length-map}
-use Rattle.fields.specs.Lists.{tabulate}
+use lib.ListN.{length, getD, length-map}
+use Rattle.fields.specs.Lists.{tabulate, filled}
 use Rattle.fields.proofs.Codecs.{All, all-map}
 use Rattle.fields.proofs.Tables.{tabulate-all}
 use Rattle.fields.proofs.Arrays.{tabulate-filled, tabulate-pairs}
@@ -48,33 +48,44 @@ pub record ContentsOk (c : Contents) : Type 0 where
   pub jobs : c .jobs ≤ 60
   pub kinds : KindsOk (c .settings .kinds) (c .jobs) (c .kinds)
 
+-- as many of each as N and T say, and no more than the record's arrays hold
+pub record Shaped (c : Contents) : Type 0 where
+  pub few : c .settings .kinds ≤ 5
+  pub rows : (length (c .rows) ≡ c .settings .kinds + 1) × All (λ r. length r ≡ c .settings .kinds) (c .rows)
+  pub weights : length (c .weights) ≡ c .settings .kinds
+  pub windows : length (c .windows) ≡ c .settings .kinds
+
+pub shaped : (c : Contents) → ContentsOk c → Shaped c
+shaped c ok = record {
+  few = ok .settings .kinds .1;
+  rows = (ok .rows .0, all-map _ _ (c .rows) (λ r h. h .0) (ok .rows .1));
+  weights = ok .weights .0;
+  windows = ok .windows .0;
+}
+
 abbrev pub recordOf : Contents → Queue
 recordOf c = withJobs (headOf (c .settings) (c .rows) (c .weights) (c .windows)) (c .jobs) (c .kinds)
 
-module _ (c : Contents) (ok : ContentsOk c) where
+module _ (c : Contents) (ok : Shaped c) where
   pub rows-of : rows (recordOf c) ≡ c .rows
-  rows-of = rows-back (c .settings .kinds) (c .rows) (ok .settings .kinds .1) (ok .rows .0) (all-map _ _ (c .rows) (λ r h. h .0) (ok .rows .1))
+  rows-of = rows-back (c .settings .kinds) (c .rows) (ok .few) (ok .rows .0) (ok .rows .1)
 
   pub weights-of : weightList (recordOf c) ≡ c .weights
-  weights-of =
-      ap (tabulate (weight (recordOf c)) 1) (sym (ok .weights .0)) ∙ tabulate-filled 5 (c .weights) (omega (arith, ok .weights .0, ok .settings .kinds))
+  weights-of = ap (tabulate (weight (recordOf c)) 1) (sym (ok .weights)) ∙ tabulate-filled 5 (c .weights) (omega (arith, ok .weights, ok .few))
 
-  first-of : tabulate (firstPlace (recordOf c)) 1 (c .settings .kinds) ≡ map (λ w. w .0) (c .windows)
-  first-of =
-      let e : length (map (λ (w : ℕ × ℕ). w .0) (c .windows)) ≡ c .settings .kinds = length-map (c .windows) (λ w. w .0) ∙ ok .windows .0 in
-      ap (tabulate (firstPlace (recordOf c)) 1) (sym e) ∙ tabulate-filled 5 (map (λ w. w .0) (c .windows)) (omega (arith, ok .settings .kinds))
-
-  last-of : tabulate (lastPlace (recordOf c)) 1 (c .settings .kinds) ≡ map (λ w. w .1) (c .windows)
-  last-of =
-      let e : length (map (λ (w : ℕ × ℕ). w .1) (c .windows)) ≡ c .settings .kinds = length-map (c .windows) (λ w. w .1) ∙ ok .windows .0 in
-      ap (tabulate (lastPlace (recordOf c)) 1) (sym e) ∙ tabulate-filled 5 (map (λ w. w .1) (c .windows)) (omega (arith, ok .settings .kinds))
+  -- one side of the windows, stored in an array
+  side : (f : ℕ × ℕ → ℕ) → tabulate (λ j. getD (filled 5 (map f (c .windows))) (j - 1) 0) 1 (c .settings .kinds) ≡ map f (c .windows)
+  side f =
+      let e : length (map f (c .windows)) ≡ c .settings .kinds = length-map (c .windows) f ∙ ok .windows in
+      ap (tabulate (λ j. getD (filled 5 (map f (c .windows))) (j - 1) 0) 1) (sym e) ∙ tabulate-filled 5 (map f (c .windows)) (omega (arith, ok .few))
 
   pub windows-of : windows (recordOf c) ≡ c .windows
-  windows-of = tabulate-pairs (firstPlace (recordOf c)) (lastPlace (recordOf c)) 1 (c .settings .kinds) (c .windows) first-of last-of
+  windows-of = tabulate-pairs (firstPlace (recordOf c)) (lastPlace (recordOf c)) 1 (c .settings .kinds) (c .windows) (side (λ w. w .0)) (side (λ w. w .1))
 
-  pub kinds-of : kindList (recordOf c) ≡ c .kinds
-  kinds-of = ap (tabulate (kind (recordOf c)) 1) (sym (ok .kinds .0)) ∙ tabulate-filled 60 (c .kinds) (omega (arith, ok .kinds .0, ok .jobs))
+  pub kinds-of : length (c .kinds) ≡ c .jobs → c .jobs ≤ 60 → kindList (recordOf c) ≡ c .kinds
+  kinds-of long few = ap (tabulate (kind (recordOf c)) 1) (sym long) ∙ tabulate-filled 60 (c .kinds) (omega arith)
 
+module _ (c : Contents) (ok : ContentsOk c) where
   -- the record is within 01's bounds
   pub contents-valid : Valid (recordOf c)
   contents-valid = record {
@@ -85,11 +96,11 @@ module _ (c : Contents) (ok : ContentsOk c) where
     gaps = λ i j a b d.
         tabulate-all (gap (recordOf c) i) (λ v. (0 ≤ v) × (v ≤ 65535)) 1 (c .settings .kinds)
         (tabulate-all (λ i. tabulate (gap (recordOf c) i) 1 (c .settings .kinds)) (λ r. (length r ≡ c .settings .kinds) × All (λ v. (0 ≤ v) × (v ≤ 65535)) r) 0 (c .settings .kinds + 1)
-        (rw rows-of (ok .rows .1)) i (omega arith) (omega arith) .1) j b (omega arith) .1;
-    weights = λ j a b. tabulate-all (weight (recordOf c)) (λ v. (0 ≤ v) × (v ≤ 1000)) 1 (c .settings .kinds) (rw weights-of (ok .weights .1)) j a (omega arith) .1;
+        (rw (rows-of c (shaped c ok)) (ok .rows .1)) i (omega arith) (omega arith) .1) j b (omega arith) .1;
+    weights = λ j a b. tabulate-all (weight (recordOf c)) (λ v. (0 ≤ v) × (v ≤ 1000)) 1 (c .settings .kinds) (rw (weights-of c (shaped c ok)) (ok .weights .1)) j a (omega arith) .1;
     places = λ j a b.
         tabulate-all {A = ℕ × ℕ} (λ j. (firstPlace (recordOf c) j, lastPlace (recordOf c) j)) WindowOk 1 (c .settings .kinds)
-        (rw windows-of (ok .windows .1)) j a (omega arith);
+        (rw (windows-of c (shaped c ok)) (ok .windows .1)) j a (omega arith);
     jobs = ok .jobs;
-    kinds-of-jobs = λ i a b. tabulate-all (kind (recordOf c)) (λ v. (1 ≤ v) × (v ≤ c .settings .kinds)) 1 (c .jobs) (rw kinds-of (ok .kinds .1)) i a (omega arith);
+    kinds-of-jobs = λ i a b. tabulate-all (kind (recordOf c)) (λ v. (1 ≤ v) × (v ≤ c .settings .kinds)) 1 (c .jobs) (rw (kinds-of c (shaped c ok) (ok .kinds .0) (ok .jobs)) (ok .kinds .1)) i a (omega arith);
   }

@@ -13,7 +13,7 @@ use Rattle.fields.proofs.Tables.{length-tabulate, all-tabulate}
 use Rattle.queue.specs.declared.Queue.{Queue}
 use Rattle.queue.specs.Record.{gap, weight, firstPlace, lastPlace, kind, rows, weightList, windows, kindList, Valid}
 use Rattle.queue.specs.Reading.{queue, asReading, readQueue, cleared}
-use Rattle.queue_laws.proofs.Contents.{WindowOk, Contents, ContentsOk, recordOf, rows-of, weights-of, windows-of, kinds-of, contents-valid}
+use Rattle.queue_laws.proofs.Contents.{WindowOk, Contents, ContentsOk, recordOf, Shaped, shaped, rows-of, weights-of, windows-of, kinds-of, contents-valid}
 use Rattle.queue_laws.proofs.Accepted.{Read, queue-read}
 
 -- the contents of a record
@@ -41,10 +41,22 @@ valid-contents q v = record {
   kinds = (length-tabulate _ 1 (q .jobs), all-tabulate (kind q) (λ w. (1 ≤ w) × (w ≤ q .kinds)) 1 (q .jobs) (λ i a b. v .kinds-of-jobs i a (omega arith)));
 }
 
+-- any record's contents are as many as its N and T say
+pub shaped-contents : (q : Queue) → q .kinds ≤ 5 → Shaped (contentsOf q)
+shaped-contents q h = record {
+  few = h;
+  rows = (
+    length-tabulate _ 0 (q .kinds + 1),
+    all-tabulate (λ i. tabulate (gap q i) 1 (q .kinds)) (λ r. length r ≡ q .kinds) 0 (q .kinds + 1) (λ i l u. length-tabulate (gap q i) 1 (q .kinds)),
+  );
+  weights = length-tabulate _ 1 (q .kinds);
+  windows = length-tabulate _ 1 (q .kinds);
+}
+
 -- a record that was read is its own contents' record
 pub contents-again : (c : Contents) → ContentsOk c → cleared (recordOf c) ≡ recordOf c
 unfolding cleared
-contents-again c ok = rw (rows-of c ok, weights-of c ok, windows-of c ok, kinds-of c ok)
+contents-again c ok = let t = shaped c ok in rw (rows-of c t, weights-of c t, windows-of c t, kinds-of c t (ok .kinds .0) (ok .jobs))
 
 -- ---- accepted messages
 

@@ -93,6 +93,9 @@ module _ (P : Problem) (b : Limits P 65535 1000) (t : T P ≤ 60) where
   pub value-limit : (L : ℕ) (k : List ℕ) (c : ℕ) → IsPair P L k → value P L k ≡ some c → c ≤ valueLimit
   value-limit L k c p e = within-limit P t k (p .left) c (value-le P 65535 1000 b L k c p e)
 
+  pub choice-limit : (L : ℕ) (k : List ℕ) (x c : ℕ) → L ≤ P .N → IsLeft P k → choice P L k x ≡ some c → c ≤ valueLimit
+  choice-limit L k x c l s e = within-limit P t k s c (choice-le P 65535 1000 b L k x c l s e)
+
   pub plan-limit : (c : ℕ) → planCost P ≡ some c → c ≤ valueLimit
   plan-limit c e = within-limit P t (all P) (all-left P) c (plan-le P 65535 1000 b c e)
 

@@ -1,0 +1,246 @@
+-- Filling, index by index: the loop's invariant, what each stage may rely on, and what a turn does.
+-- Assumes nothing.
+use Prim.Native.Nat.{ℕ, zero, suc, pred, _+_, _-_, _*_, _/_, _%_, _^_, _≤_, _<_}
+use mathlib.Core.Bool.{Bool, true, false, cond}
+use mathlib.Core.List.{List, _∷_}
+use mathlib.Core.Logic.{inl, inr}
+use mathlib.Core.Option.{Option, none, some}
+use mathlib.Core.Path.{_≡_, refl, sym, ap, _∙_}
+use native.Mathlib.Nat.{div-add-mod', mod-lt, div-lt-iff-lt-mul, mul-comm, mul-le-mul, suc-mul, eq-or-lt-of-le}
+use native.Mathlib.Numerals.{add-one}
+use native.Mathlib.Omega.{arith}
+use lib.Arith.{digits-div, digits-mod}
+use lib.Dec.{ltb}
+use lib.ListN.{length, getD, take, replicate}
+use borrow.Author.Tests.{lt-ltb, le-ltb}
+use Rattle.number.proofs.Steps.{below-or-not}
+use Rattle.queue.specs.declared.Queue.{Queue}
+use Rattle.queue.specs.Record.{Valid}
+use Rattle.sequencing.specs.Lists.{at, sum, sumBelow}
+use Rattle.sequencing.specs.Problem.{T}
+use Rattle.sequencing.specs.States.{complete, all, place}
+use Rattle.sequencing.specs.Least.{least}
+use Rattle.sequencing.specs.Recursion.{W, value, choice}
+use Rattle.sequencing.specs.Entries.{size, index, stride, digits, block, entries, entry, entryKind, entryLeft}
+use Rattle.sequencing.specs.Counts.{found, feasibleStates}
+use Rattle.sequencing.proofs.AllJobs.{length-all, at-all, left-small, below-all, sum-all}
+use Rattle.sequencing.proofs.Bounds.{choice-limit, limit-fits}
+use Rattle.sequencing.proofs.Entries.{left-digits}
+use Rattle.sequencing.proofs.LoopOrder.{count-by-left}
+use Rattle.sequencing.proofs.Radix.{size-pos, stride-pos}
+use Rattle.sequencing.proofs.Vectors.{at-sum}
+use Rattle.problem.specs.Problem.{problem}
+use Rattle.problem.proofs.Rule.{jobs-is, proper, limits, few-jobs}
+use Rattle.states.specs.Steps.{next}
+use Rattle.states.proofs.Stepping.{next-digits, digits-zero}
+use Rattle.table.specs.Entries.{stored, loaded, candidate, permittedAt, filling, Ready}
+use Rattle.filling.specs.declared.Shape.{Shape}
+use Rattle.filling.specs.Prepared.{Prepared, Earlier, Arrays, kOf, weightOf, entryFrom, Staged}
+use Rattle.filling.proofs.Values.{left-at, next-at, candidate-is, filling-is}
+use Rattle.filling.proofs.Staging.{sum-ext}
+use Rattle.filling.proofs.Preparing.{counts-all, counts-few, entries-fit}
+
+-- the lengths of a record's arrays
+pub record Sized (q : Queue) : Type 0 where
+  pub gaps : length (q .gaps) ≡ 30
+  pub weights : length (q .weights) ≡ 5
+  pub first : length (q .«first_places») ≡ 5
+  pub last : length (q .«last_places») ≡ 5
+
+module _ (q : Queue) where
+  abbrev pub arraysOf : (counts jobs strides left : List ℕ) → Arrays
+  arraysOf counts jobs strides left = record {
+    left = left;
+    counts = counts;
+    jobs = jobs;
+    strides = strides;
+    gaps = q .gaps;
+    weights = q .weights;
+    first = q .«first_places»;
+    last = q .«last_places»;
+  }
+
+  abbrev pub shapeOf : ℕ → ℕ → Shape
+  shapeOf n i = record { kinds = q .kinds; block = n; index = i; goal = q .goal; «max_shift» = q .«max_shift»; jobs = q .jobs }
+
+  -- the states with index i that are feasible
+  abbrev pub countAt : ℕ → ℕ
+  countAt i = sumBelow (λ l. found (value (problem q) (suc l) (digits (all (problem q)) i))) (q .kinds)
+
+  -- the first i indices are filled
+  pub record Filled (table₀ table left : List ℕ) (feasible i : ℕ) : Type 0 where
+    pub long : length table ≡ length table₀
+    pub left-long : length left ≡ 5
+    pub here : take (q .kinds) left ≡ digits (all (problem q)) i
+    pub upto : i ≤ block (problem q)
+    pub done : Earlier (problem q) table i
+    pub past : (n : ℕ) → entries (problem q) ≤ n → getD table n 0 ≡ getD table₀ n 0
+    pub counted : feasible ≡ sumBelow countAt i
+
+sum-most : (f : ℕ → ℕ) (m n : ℕ) → ((l : ℕ) → l < n → f l ≤ m) → sumBelow f n ≤ n * m
+unfolding sumBelow
+sum-most f m zero h = omega arith
+sum-most f m (suc n) h = rw (suc-mul n m) (omega (arith, sum-most f m n (λ l u. h l (omega arith)), h n (omega arith)))
+
+found-most : (r : Option ℕ) → found r ≤ 1
+found-most none = omega arith
+found-most (some c) = omega arith
+
+count-most : (q : Queue) (i : ℕ) → countAt q i ≤ q .kinds
+count-most q i = omega (arith, sum-most (λ l. found (value (problem q) (suc l) (digits (all (problem q)) i))) 1 (q .kinds) (λ l _. found-most (value (problem q) (suc l) (digits (all (problem q)) i))))
+
+take-zeros : (n m : ℕ) → n ≤ m → take n (replicate {A = ℕ} m 0) ≡ replicate n 0
+take-zeros zero m h = refl
+take-zeros (suc n) zero h = absurd (omega arith)
+take-zeros (suc n) (suc m) h = ap (λ (l : List ℕ). 0 ∷ l) (take-zeros n m (omega arith))
+
+pub filled-none : (q : Queue) → Valid q → (table : List ℕ) → Filled q table table (replicate 5 0) 0 0
+unfolding sumBelow
+filled-none q v table = record {
+  long = refl;
+  left-long = refl;
+  here = take-zeros (q .kinds) 5 (v .kinds .1) ∙ ap (λ (n : ℕ). replicate n 0) (sym (length-all (problem q))) ∙ sym (digits-zero (all (problem q)));
+  upto = omega arith;
+  done = λ L j l u h. absurd (omega arith);
+  past = λ n h. refl;
+  counted = refl;
+}
+
+module _ (q : Queue) (v : Valid q) (sized : Sized q) (counts jobs strides : List ℕ) (n : ℕ) (p : Prepared (problem q) counts jobs strides n)
+    (table₀ : List ℕ) (room : entries (problem q) ≤ length table₀) (table left : List ℕ) (feasible i : ℕ) (w : Filled q table₀ table left feasible i) (h : i < n) where
+  in-block : i < block (problem q)
+  in-block = omega (arith, p .size-is)
+
+  k-few : (j : ℕ) → at (digits (all (problem q)) i) j ≤ 60
+  k-few j = omega (arith, at-sum (digits (all (problem q)) i) j, left-small (problem q) (digits (all (problem q)) i) (left-digits (problem q) i), few-jobs q v)
+
+  weight-is : weightOf (arraysOf q counts jobs strides left) (shapeOf q n i) ≡ W (problem q) (digits (all (problem q)) i)
+  unfolding W
+  weight-is = rw (w .here)
+
+  -- what an entry gets is its state's value
+  entry-is-value : (L : ℕ) → 1 ≤ L → L ≤ q .kinds → entryFrom table (arraysOf q counts jobs strides left) (shapeOf q n i) L ≡ value (problem q) L (digits (all (problem q)) i)
+  unfolding entryFrom
+  entry-is-value L l u =
+      let made : ℕ → ℕ → ℕ → Option ℕ = λ weight remaining place.
+      filling table left (q .gaps) strides (q .kinds) n i weight remaining (permittedAt left counts jobs (q .«first_places») (q .«last_places») place (q .«max_shift») L) L in
+      let same = ap sum (w .here) in
+      let there : q .jobs - sum (take (q .kinds) left) ≡ place (problem q) (digits (all (problem q)) i) = omega (arith, jobs-is q) in
+      (λ j. made (weight-is j) (same j) (there j)) ∙ filling-is q v counts jobs strides n p left i (w .here) in-block table (w .done) L l u
+
+  -- what a stage may rely on
+  ready : (L : ℕ) → L ≤ q .kinds → Ready table left (q .gaps) strides L (q .kinds) n i (W (problem q) (digits (all (problem q)) i))
+  ready L u = record {
+    few = v .kinds .1;
+    row-in = u;
+    left-long = w .left-long;
+    gaps-long = sized .gaps;
+    strides-long = p .strides-long;
+    index-in = h;
+    table-long = rw (p .size-is) (omega (arith, w .long));
+    earlier = λ x a b c. stride-in x a b (rw (left-at q v counts jobs strides n p left i (w .here) in-block x a b) at c);
+    small = λ x d a b c e. small x d a b c e;
+  }
+    where
+      stride-in : (x : ℕ) → 1 ≤ x → x ≤ q .kinds → 0 < at (digits (all (problem q)) i) x → (1 ≤ at strides x) × (at strides x ≤ i)
+      stride-in x a b c = (
+        omega (arith, p .strides-are x a b, stride-pos (all (problem q)) x a (omega (arith, length-all (problem q)))),
+        omega (arith, next-at q v counts jobs strides n p left i (w .here) in-block x a b c),
+      )
+
+      small : (x d : ℕ) → 1 ≤ x → x ≤ q .kinds → 0 < at left x → loaded (getD table ((x - 1) * n + i - at strides x) 0) ≡ some d
+          → W (problem q) (digits (all (problem q)) i) * getD (q .gaps) (5 * L + (x - 1)) 0 + d < 2 ^ 64 - 1
+      small x d a b c e =
+          let s = candidate-is q v counts jobs strides n p left i (w .here) in-block table (w .done) L x a b in
+          let t : candidate table left (q .gaps) strides L n i (W (problem q) (digits (all (problem q)) i)) x ≡ some (W (problem q) (digits (all (problem q)) i) * getD (q .gaps) (5 * L + (x - 1)) 0 + d) =
+          rw (lt-ltb 0 (at left x) c, e) in
+          omega (arith, choice-limit (problem q) (limits q v) (few-jobs q v) L (digits (all (problem q)) i) x _ u (left-digits (problem q) i) (sym s ∙ t), limit-fits)
+
+  pub staged : Staged table (arraysOf q counts jobs strides left) (shapeOf q n i)
+  staged = record {
+    few = v .kinds .1;
+    ready = λ L l u. rw weight-is (ready L u);
+    counts-long = p .counts-long;
+    jobs-long = p .jobs-long;
+    left-long = w .left-long;
+    weights-long = sized .weights;
+    first-long = sized .first;
+    last-long = sized .last;
+    left-few = λ j b. omega (arith, left-at q v counts jobs strides n p left i (w .here) in-block (suc j) (omega arith) b, k-few (suc j));
+    counts-few = counts-few q v counts jobs (p .listed) (p .counts-long);
+    weights-few = λ j b. rw (minus j) at (v .weights (suc j) (omega arith) b);
+    all-left = rw (w .here) (omega (arith, left-small (problem q) (digits (all (problem q)) i) (left-digits (problem q) i), jobs-is q));
+  }
+    where
+      minus : (j : ℕ) → suc j - 1 ≡ j
+      minus j = omega arith
+
+  -- entries of other indices stand elsewhere
+  apart : (L M j : ℕ) → j < n → (j ≡ i → ⊥) → (L - 1) * n + j ≡ (M - 1) * n + i → ⊥
+  apart L M j l d e = d (sym (digits-mod (L - 1) l) ∙ ap (λ (m : ℕ). m % n) e ∙ digits-mod (M - 1) h)
+
+  -- and all below N × P
+  below : (L : ℕ) → 1 ≤ L → L ≤ q .kinds → (L - 1) * n + i < entries (problem q)
+  below L l u =
+      let s : suc (L - 1) * n ≡ (L - 1) * n + n = suc-mul (L - 1) n in
+      rw (← (p .size-is)) (omega (arith, mul-le-mul {n₁ = suc (L - 1)} {m₁ = n} {n₂ = q .kinds} {m₂ = n} (omega arith) (omega arith)))
+
+  module _ (table′ left′ : List ℕ) (more : ℕ) (long : length table′ ≡ length table)
+      (stores : (L : ℕ) → 1 ≤ L → L ≤ q .kinds → getD table′ ((L - 1) * n + i) 0 ≡ stored (entryFrom table (arraysOf q counts jobs strides left) (shapeOf q n i) L))
+      (others : (m : ℕ) → ((L : ℕ) → 1 ≤ L → L ≤ q .kinds → m ≡ (L - 1) * n + i → ⊥) → getD table′ m 0 ≡ getD table m 0)
+      (many : more ≡ sumBelow (λ l. found (entryFrom table (arraysOf q counts jobs strides left) (shapeOf q n i) (l + 1))) (q .kinds)) where
+    more-is : more ≡ countAt q i
+    more-is = many ∙ sum-ext _ _ (q .kinds) (λ l u. ap found (entry-is-value (l + 1) (omega arith) (omega arith) ∙ ap (λ (m : ℕ). value (problem q) m (digits (all (problem q)) i)) (add-one l)))
+
+    stored-so-far : Earlier (problem q) table′ (i + 1)
+    stored-so-far L j l u b = elim (eq-or-lt-of-le {n = j} {m = i} (omega arith)) [
+      | inl e ↦ rw (e, ← (p .size-is)) (stores L l u ∙ ap stored (entry-is-value L l u))
+      | inr c ↦ rw (← (p .size-is)) (others ((L - 1) * n + j) (λ M a d. apart L M j (omega arith) (λ e. omega arith)) ∙ rw (p .size-is) (w .done L j l u c))
+    ]
+
+    pub filled-more : length left′ ≡ 5 → take (q .kinds) left′ ≡ next (take (q .kinds) counts) (take (q .kinds) left)
+        → Filled q table₀ table′ left′ (feasible + more) (i + 1)
+    unfolding sumBelow
+    filled-more left-long stepped = record {
+      long = long ∙ w .long;
+      left-long = left-long;
+      here = stepped ∙ rw (w .here, counts-all q v counts jobs (p .listed) (p .counts-long), add-one i) (next-digits (all (problem q)) i);
+      upto = omega (arith, in-block);
+      done = stored-so-far;
+      past = λ m b. others m (λ L l u e. omega (arith, below L l u)) ∙ w .past m b;
+      counted = rw (add-one i) (omega (arith, w .counted, more-is));
+    }
+
+    pub count-fits : feasible + more < 2 ^ 64
+    count-fits =
+        omega (
+          arith,
+          w .counted,
+          more-is,
+          sum-most (countAt q) (q .kinds) i (λ j _. count-most q j),
+          count-most q i,
+          suc-mul i (q .kinds),
+          mul-le-mul {n₁ = suc i} {m₁ = q .kinds} {n₂ = block (problem q)} {m₂ = q .kinds} in-block (omega arith),
+          mul-comm (block (problem q)) (q .kinds),
+          entries-fit q v,
+        )
+
+module _ (q : Queue) (v : Valid q) (n : ℕ) (size-is : n ≡ block (problem q)) (table₀ table left : List ℕ) (feasible i : ℕ) (w : Filled q table₀ table left feasible i) (h : n ≤ i) where
+  all-filled : i ≡ block (problem q)
+  all-filled = omega (arith, w .upto)
+
+  pub filled-table : (m : ℕ) → getD table m 0 ≡ cond (ltb m (entries (problem q))) (stored (entry (problem q) m)) (getD table₀ m 0)
+  unfolding entryKind entryLeft
+  filled-table m = elim (below-or-not m (entries (problem q))) [
+    | inl b ↦ rw (lt-ltb m (entries (problem q)) b) (ap (λ (k : ℕ). getD table k 0) (sym (position b)) ∙ w .done (suc (m / block (problem q))) (m % block (problem q)) (omega arith) (high b) (rw all-filled (mod-lt m (size-pos (all (problem q))))))
+    | inr b ↦ rw (le-ltb m (entries (problem q)) b) (w .past m b)
+  ]
+    where
+      high : m < entries (problem q) → suc (m / block (problem q)) ≤ q .kinds
+      high b = div-lt-iff-lt-mul {k = block (problem q)} {x = m} {y = q .kinds} (size-pos (all (problem q))) .1 b
+
+      position : m < entries (problem q) → (suc (m / block (problem q)) - 1) * block (problem q) + m % block (problem q) ≡ m
+      position b = let e : suc (m / block (problem q)) - 1 ≡ m / block (problem q) = omega arith in rw e (div-add-mod' m (block (problem q)))
+
+  pub filled-count : feasible ≡ feasibleStates (problem q)
+  filled-count = w .counted ∙ rw all-filled (count-by-left (problem q))

@@ -1,0 +1,4 @@
+pub mod Values
+pub mod Preparing
+pub mod Staging
+pub mod Filled

@@ -1,0 +1,68 @@
+-- What is prepared once a call, and what the table holds while it fills.
+use Prim.Native.Nat.{ℕ, _+_, _-_, _*_, _≤_, _<_}
+use mathlib.Core.Bool.{cond}
+use mathlib.Core.Option.{Option}
+use mathlib.Core.Path.{_≡_}
+use lib.Dec.{eqb}
+use mathlib.Core.List.{List}
+use lib.ListN.{length, getD, take}
+use Rattle.sequencing.specs.Lists.{at, sum, weigh}
+use Rattle.sequencing.specs.Problem.{Problem}
+use Rattle.sequencing.specs.States.{all}
+use Rattle.sequencing.specs.Recursion.{value}
+use Rattle.sequencing.specs.Entries.{stride, digits, block}
+use Rattle.states.specs.Listed.{Listed}
+use Rattle.table.specs.Entries.{stored, permittedAt, filling, Ready}
+use Rattle.filling.specs.declared.Shape.{Shape}
+
+-- the counts and jobs of each kind, what a job of each kind counts for in an entry number, and 01's P
+pub record Prepared (P : Problem) (counts jobs strides : List ℕ) (size : ℕ) : Type 0 where
+  pub listed : Listed P counts jobs
+  pub counts-long : length counts ≡ 5
+  pub jobs-long : length jobs ≡ 300
+  pub strides-long : length strides ≡ 5
+  pub strides-are : (x : ℕ) → 1 ≤ x → x ≤ P .N → at strides x ≡ stride (all P) x
+  pub size-is : size ≡ block P
+
+-- the entries of the first i indices are filled
+abbrev pub Earlier : Problem → List ℕ → ℕ → Type 0
+Earlier P table i = (L j : ℕ) → 1 ≤ L → L ≤ P .N → j < i → getD table ((L - 1) * block P + j) 0 ≡ stored (value P L (digits (all P) j))
+
+-- the arrays and numbers that an entry is computed from
+pub record Arrays : Type 0 where
+  pub left : List ℕ
+  pub counts : List ℕ
+  pub jobs : List ℕ
+  pub strides : List ℕ
+  pub gaps : List ℕ
+  pub weights : List ℕ
+  pub first : List ℕ
+  pub last : List ℕ
+
+-- the k of a stage, its W and the place of its jobs
+abbrev pub kOf : Arrays → Shape → List ℕ
+kOf a n = take (n .kinds) (a .left)
+
+abbrev pub weightOf : Arrays → Shape → ℕ
+weightOf a n = cond (eqb (n .goal) 1) 1 (weigh (λ j. getD (a .weights) (j - 1) 0) (kOf a n))
+
+-- what the entry of (L; k) gets
+unfoldable pub entryFrom : List ℕ → Arrays → Shape → ℕ → Option ℕ
+entryFrom table a n L =
+    filling table (a .left) (a .gaps) (a .strides) (n .kinds) (n .block) (n .index) (weightOf a n) (sum (kOf a n))
+    (permittedAt (a .left) (a .counts) (a .jobs) (a .first) (a .last) (n .jobs - sum (kOf a n)) (n .«max_shift») L) L
+
+-- what a stage may rely on
+pub record Staged (table : List ℕ) (a : Arrays) (n : Shape) : Type 0 where
+  pub few : n .kinds ≤ 5
+  pub ready : (L : ℕ) → 1 ≤ L → L ≤ n .kinds → Ready table (a .left) (a .gaps) (a .strides) L (n .kinds) (n .block) (n .index) (weightOf a n)
+  pub counts-long : length (a .counts) ≡ 5
+  pub jobs-long : length (a .jobs) ≡ 300
+  pub left-long : length (a .left) ≡ 5
+  pub weights-long : length (a .weights) ≡ 5
+  pub first-long : length (a .first) ≡ 5
+  pub last-long : length (a .last) ≡ 5
+  pub left-few : (j : ℕ) → j < n .kinds → getD (a .left) j 0 ≤ 60
+  pub counts-few : (j : ℕ) → j < n .kinds → getD (a .counts) j 0 ≤ 60
+  pub weights-few : (j : ℕ) → j < n .kinds → getD (a .weights) j 0 ≤ 1000
+  pub all-left : sum (kOf a n) ≤ n .jobs

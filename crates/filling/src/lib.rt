@@ -1,0 +1,175 @@
+// Filling the table of a queue: every state's value, and how many states are feasible.
+use queue::Queue;
+use table::Stage;
+ghost use mathlib.Core.Path.{_≡_};
+ghost use mathlib.Core.Bool.{cond};
+ghost use Prim.Native.Nat.{ℕ, _+_, _-_, _*_, _^_, _≤_, _<_};
+ghost use lib.Dec.{ltb, eqb};
+ghost use lib.ListN.{length, getD, take};
+ghost use Rattle.queue.specs.Record.{Valid};
+ghost use Rattle.sequencing.specs.Lists.{at, sum, weigh, sumBelow};
+ghost use Rattle.sequencing.specs.Entries.{entries, entry};
+ghost use Rattle.sequencing.specs.Counts.{found, feasibleStates};
+ghost use Rattle.problem.specs.Problem.{problem};
+ghost use Rattle.table.specs.Entries.{stored};
+ghost use Rattle.filling.specs.Prepared.{Prepared, Arrays, weightOf, entryFrom, Staged};
+
+// What is prepared once a call.
+pub struct Setup {
+    // K_1 .. K_N.
+    pub counts: [u32; 5],
+    // The jobs of each kind by hand-in, sixty places a kind.
+    pub jobs: [u32; 300],
+    // What one job of each kind counts for in an entry number.
+    pub strides: [usize; 5],
+    // 01's P.
+    pub block: usize,
+}
+
+// The numbers of a queue and of one k.
+pub struct Shape {
+    pub kinds: usize,
+    pub block: usize,
+    // The counts' part of the entry number.
+    pub index: usize,
+    pub goal: u32,
+    pub max_shift: u32,
+    pub jobs: u32,
+}
+
+pub fn prepare(queue: Queue) -> Setup
+    requires { ⌜ Valid queue ⌝ }
+    ensures { λ r. ⌜ Prepared (problem queue) (r .counts) (r .jobs) (r .strides) (r .block) ⌝ }
+{
+    let mut counts = [0u32; 5];
+    let mut jobs = [0u32; 300];
+    let mut strides = [0usize; 5];
+    states::list_jobs(queue, &mut counts, &mut jobs);
+    let n = queue.kinds as usize;
+    let block = states::set_strides(&counts, n, &mut strides);
+    Setup {
+        counts,
+        jobs,
+        strides,
+        block,
+    }
+}
+
+// The entries that the table needs: N times P.
+pub fn needed_entries(queue: Queue) -> u64
+    requires { ⌜ Valid queue ⌝ }
+    ensures { λ r. ⌜ r ≡ entries (problem queue) ⌝ }
+{
+    let setup = prepare(queue);
+    queue.kinds as u64 * setup.block as u64
+}
+
+// 01's W: 1 under goal 1, the weight of the jobs left under goal 2.
+fn stage_weight(goal: u32, left: &[u32], weights: &[u32], kinds: usize) -> u64
+    requires { ⌜ (kinds ≤ 5) × ((length (now left) ≡ 5) × ((length (now weights) ≡ 5) × (((j : ℕ) → j < kinds → getD (now left) j 0 ≤ 60) × ((j : ℕ) → j < kinds → getD (now weights) j 0 ≤ 1000)))) ⌝ }
+    ensures { λ r. ⌜ r ≡ cond (eqb goal 1) 1 (weigh (λ j. getD (now (weights .entry)) (j - 1) 0) (take kinds (now (left .entry)))) ⌝ }
+{
+    if goal == 1 {
+        return 1;
+    }
+    states::weight_left(left, weights, kinds)
+}
+
+// Stores the entries of all states with one k; returns how many of them hold a value.
+fn fill_index(
+    table: &mut [u64],
+    left: &[u32],
+    counts: &[u32],
+    jobs: &[u32],
+    strides: &[usize],
+    gaps: &[u32],
+    weights: &[u32],
+    first: &[u32],
+    last: &[u32],
+    shape: Shape,
+) -> u64
+    requires { ⌜ Staged (now table) (record { left = now left; counts = now counts; jobs = now jobs; strides = now strides; gaps = now gaps; weights = now weights; first = now first; last = now last }) shape ⌝ }
+    ensures { λ _. ⌜ length (now (table .exit)) ≡ length (now (table .entry)) ⌝ }
+    ensures { λ _. ⌜ ((L : ℕ) → 1 ≤ L → L ≤ shape .kinds → getD (now (table .exit)) ((L - 1) * shape .block + shape .index) 0 ≡ stored (entryFrom (now (table .entry)) (record { left = now (left .entry); counts = now (counts .entry); jobs = now (jobs .entry); strides = now (strides .entry); gaps = now (gaps .entry); weights = now (weights .entry); first = now (first .entry); last = now (last .entry) }) shape L)) ⌝ }
+    ensures { λ _. ⌜ ((n : ℕ) → ((L : ℕ) → 1 ≤ L → L ≤ shape .kinds → n ≡ (L - 1) * shape .block + shape .index → ⊥) → getD (now (table .exit)) n 0 ≡ getD (now (table .entry)) n 0) ⌝ }
+    ensures { λ r. ⌜ r ≡ sumBelow (λ l. found (entryFrom (now (table .entry)) (record { left = now (left .entry); counts = now (counts .entry); jobs = now (jobs .entry); strides = now (strides .entry); gaps = now (gaps .entry); weights = now (weights .entry); first = now (first .entry); last = now (last .entry) }) shape (l + 1))) (shape .kinds) ⌝ }
+{
+    let kinds = shape.kinds;
+    let remaining = states::total_left(left, kinds);
+    let weight = stage_weight(shape.goal, left, weights, kinds);
+    let place = shape.jobs - remaining;
+    let mut marks = [0u32; 5];
+    table::mark_permitted(
+        left,
+        counts,
+        jobs,
+        first,
+        last,
+        place,
+        shape.max_shift,
+        kinds,
+        &mut marks,
+    );
+    table::fill_states(
+        table,
+        left,
+        &marks,
+        gaps,
+        strides,
+        Stage {
+            kinds,
+            block: shape.block,
+            index: shape.index,
+            goal: shape.goal,
+            weight,
+            remaining,
+        },
+    )
+}
+
+// Fills the table with every state's value; returns how many states are feasible.
+pub fn fill(queue: Queue, setup: Setup, table: &mut [u64]) -> u64
+    requires { ⌜ Valid queue × (Prepared (problem queue) (setup .counts) (setup .jobs) (setup .strides) (setup .block) × (entries (problem queue) ≤ length (now table))) ⌝ }
+    ensures { λ _. ⌜ length (now (table .exit)) ≡ length (now (table .entry)) ⌝ }
+    ensures { λ _. ⌜ ((n : ℕ) → getD (now (table .exit)) n 0 ≡ cond (ltb n (entries (problem queue))) (stored (entry (problem queue) n)) (getD (now (table .entry)) n 0)) ⌝ }
+    ensures { λ r. ⌜ r ≡ feasibleStates (problem queue) ⌝ }
+{
+    let kinds = queue.kinds as usize;
+    let gaps = queue.gaps;
+    let weights = queue.weights;
+    let first = queue.first_places;
+    let last = queue.last_places;
+    let counts = setup.counts;
+    let jobs = setup.jobs;
+    let strides = setup.strides;
+    let block = setup.block;
+    let mut left = [0u32; 5];
+    let mut feasible: u64 = 0;
+    let mut index: usize = 0;
+    while index < block {
+        let shape = Shape {
+            kinds,
+            block,
+            index,
+            goal: queue.goal,
+            max_shift: queue.max_shift,
+            jobs: queue.jobs,
+        };
+        feasible = feasible
+            + fill_index(
+                table,
+                &left,
+                &counts,
+                &jobs,
+                &strides,
+                &gaps,
+                &weights,
+                &first,
+                &last,
+                shape,
+            );
+        states::step_left(&mut left, &counts, kinds);
+        index = index + 1;
+    }
+    feasible
+}

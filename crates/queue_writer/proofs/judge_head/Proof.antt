@@ -1,0 +1,38 @@
+-- `queue_writer::judge_head` meets its contract: one part is judged after the other.
+-- Assumes nothing.
+use mathlib.Core.Path.{sym, ap, _∙_}
+use Rattle.refusal.specs.declared.Verdict.{Verdict}
+use Rattle.refusal.specs.declared.Verdict.the-variants.{Accepted}
+use Rattle.queue_writer.specs.Writing.{judgeTables, judgeHead}
+use Rattle.queue_writer.proofs.Judging.{after, few-kinds, settings-after}
+use borrow.Author.Needs.{needs}
+use Rattle.queue_writer.proofs.judge_head.Statement.{statement}
+use Rattle.queue_writer.proofs.judge_head.Tie as tie
+
+judge-tables-requires : tie.Need-judge-tables-requires
+judge-tables-requires c κs = few-kinds (c .before .before .before .args .queue) Accepted (sym (c .before .before .judge-settings .ensures) ∙ c .enum-told .given .1)
+
+returns : tie.Need-returns
+unfolding judgeHead
+returns c =
+    let q = c .before .before .before .before .args .queue in
+    let more = judgeTables q Accepted in
+    sym (settings-after q more ∙ ap (λ (v : Verdict). after v more) (sym (c .before .before .before .judge-settings .ensures) ∙ c .before .why .given .1))
+
+returns-2 : tie.Need-returns-2
+unfolding judgeHead
+returns-2 c =
+    let q = c .before .before .before .before .args .queue in
+    let more = judgeTables q Accepted in
+    c .judge-tables .ensures ∙ sym (settings-after q more ∙ ap (λ (v : Verdict). after v more) (sym (c .before .before .before .judge-settings .ensures) ∙ c .before .enum-told .given .1))
+
+pub judge-head-spec : {M : Type 1} → statement M
+judge-head-spec =
+    tie.close
+    (tie.spec
+    (λ c κs. search needs)
+    (λ c. search needs)
+    (λ c. search needs)
+    judge-tables-requires
+    returns
+    returns-2)

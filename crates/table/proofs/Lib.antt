@@ -1,0 +1,5 @@
+pub mod Stored
+pub mod Candidates
+pub mod Lowest
+pub mod Marks
+pub mod Filling
