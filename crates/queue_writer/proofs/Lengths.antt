@@ -50,11 +50,7 @@ module _ (q : Queue) (v : Valid q) where
 
   pub head-length : length (headBytes q) ≤ 114
   unfolding headBytes
-  head-length =
-      let s = settingsBytes q in
-      let g = flatMap encodeAll (rows q) in
-      let w = encodeAll (weightList q) in
-      omega (arith, length-append (s ++ g ++ w) (flatMap encodeWindow (windows q)), length-append (s ++ g) w, length-append s g, settings-length, gaps-length, weights-length, windows-length)
+  head-length = simp length-append (omega (arith, simp length-append at settings-length, gaps-length, weights-length, windows-length))
 
   pub jobs-length : length (jobBytes q) ≤ 61
   unfolding jobBytes
