@@ -114,7 +114,7 @@ module _ (q : Queue) (v : Valid q) (sized : Sized q) (counts jobs strides : List
   k-few : (j : ℕ) → at (digits (all (problem q)) i) j ≤ 60
   k-few j = omega (arith, at-sum (digits (all (problem q)) i) j, left-small (problem q) (digits (all (problem q)) i) (left-digits (problem q) i), few-jobs q v)
 
-  weight-is : weightOf (arraysOf q counts jobs strides left) (shapeOf q n i) ≡ W (problem q) (digits (all (problem q)) i)
+  pub weight-is : weightOf (arraysOf q counts jobs strides left) (shapeOf q n i) ≡ W (problem q) (digits (all (problem q)) i)
   unfolding W
   weight-is = rw (w .here)
 
@@ -129,7 +129,7 @@ module _ (q : Queue) (v : Valid q) (sized : Sized q) (counts jobs strides : List
       (λ j. made (weight-is j) (same j) (there j)) ∙ filling-is q v counts jobs strides n p left i (w .here) in-block table (w .done) L l u
 
   -- what a stage may rely on
-  ready : (L : ℕ) → L ≤ q .kinds → Ready table left (q .gaps) strides L (q .kinds) n i (W (problem q) (digits (all (problem q)) i))
+  pub ready : (L : ℕ) → L ≤ q .kinds → Ready table left (q .gaps) strides L (q .kinds) n i (W (problem q) (digits (all (problem q)) i))
   ready L u = record {
     few = v .kinds .1;
     row-in = u;

@@ -57,7 +57,7 @@ at-take : (n : ℕ) (xs : List ℕ) (x : ℕ) → 1 ≤ x → x ≤ n → at (ta
 at-take n xs zero l u = absurd (omega arith)
 at-take n xs (suc r) l u = getD-take n xs r 0 (omega arith)
 
-at-minus : (xs : List ℕ) (x : ℕ) → 1 ≤ x → at xs x ≡ getD xs (x - 1) 0
+pub at-minus : (xs : List ℕ) (x : ℕ) → 1 ≤ x → at xs x ≡ getD xs (x - 1) 0
 at-minus xs zero l = absurd (omega arith)
 at-minus xs (suc r) l = ap (λ (m : ℕ). getD xs m 0) (omega arith)
 

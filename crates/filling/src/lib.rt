@@ -65,7 +65,7 @@ pub fn needed_entries(queue: Queue) -> u64
 }
 
 // 01's W: 1 under goal 1, the weight of the jobs left under goal 2.
-fn stage_weight(goal: u32, left: &[u32], weights: &[u32], kinds: usize) -> u64
+pub fn stage_weight(goal: u32, left: &[u32], weights: &[u32], kinds: usize) -> u64
     requires { ⌜ (kinds ≤ 5) × ((length (now left) ≡ 5) × ((length (now weights) ≡ 5) × (((j : ℕ) → j < kinds → getD (now left) j 0 ≤ 60) × ((j : ℕ) → j < kinds → getD (now weights) j 0 ≤ 1000)))) ⌝ }
     ensures { λ r. ⌜ r ≡ cond (eqb goal 1) 1 (weigh (λ j. getD (now (weights .entry)) (j - 1) 0) (take kinds (now (left .entry)))) ⌝ }
 {

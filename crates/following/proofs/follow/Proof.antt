@@ -1,0 +1,84 @@
+-- `following::follow` meets its contract: at each place the order so far, with the rest of the plan behind it, is the plan's.
+-- Assumes nothing.
+use Prim.Native.Nat.{_-_}
+use native.Mathlib.Omega.{arith}
+use Rattle.solving.proofs.Start.{some-block}
+use Rattle.following.proofs.Following.{On, on-start, on-end, row-low, row-high, job-left, left-within, counts-within, stride-within, on-next}
+use borrow.Author.Needs.{needs}
+use Rattle.following.proofs.follow.Statement.{statement}
+use Rattle.following.proofs.follow.Tie as tie
+
+abbrev Inv-loop : tie.InvT-loop
+Inv-loop queue setup table counts jobs strides total order₀ left₀ row₀ index₀ place₀ order left row index place = On queue order left row index place
+
+abbrev μ-loop : tie.MeasureT-loop
+μ-loop queue setup table counts jobs strides total order₀ left₀ row₀ index₀ place₀ order left row index place = total - place
+
+sub-index : tie.Need-sub-index Inv-loop μ-loop
+sub-index c = some-block (c .before .before .before .before .before .before .before .before .args .queue) (c .before .before .before .before .before .before .before .before .pre .0) _ _ _ _ (c .before .before .before .before .before .before .before .before .pre .1 .0)
+
+loop-holds : tie.Need-loop-holds Inv-loop μ-loop
+loop-holds c = on-start (c .before .before .before .before .before .before .before .before .args .queue) (c .before .before .before .before .before .before .before .before .pre .0) _ _ _ _ (c .before .before .before .before .before .before .before .before .pre .1 .0) (c .before .before .before .before .before .before .before .before .pre .1 .1 .1 .1)
+
+best-next-requires : tie.Need-best-next-requires Inv-loop μ-loop
+best-next-requires c κs =
+    let p = c .before .before .before .before .before .before .before .before .before .before .before .pre in
+    let o = c .before .before .loop .inv in
+    (p .0, (p .1 .0, (p .1 .1 .0, (p .1 .1 .1 .0, (o .left-long, (o .here, (o .within, o .row-in)))))))
+
+sub-take-job : tie.Need-sub-take-job Inv-loop μ-loop
+sub-take-job c = row-low (c .before .before .before .before .before .before .before .before .before .before .before .before .before .before .before .args .queue) (c .before .before .before .before .before .before .before .before .before .before .before .before .before .before .before .pre .0) _ _ _ _ (c .before .before .before .before .before .before .before .before .before .before .before .before .before .before .before .pre .1 .0) _ _ _ _ _ (c .before .before .before .before .before .before .loop .inv) (c .before .before .before .before .before .loop-test .taken) _ (c .before .before .before .best-next .ensures .1)
+
+take-job-requires : tie.Need-take-job-requires Inv-loop μ-loop
+take-job-requires c κs =
+    let p = c .before .before .before .before .before .before .before .before .before .before .before .before .before .before .before .pre .1 .0 in
+    (omega (arith, row-high (c .before .before .before .before .before .before .before .before .before .before .before .before .before .before .before .args .queue) (c .before .before .before .before .before .before .before .before .before .before .before .before .before .before .before .pre .0) _ _ _ _ (c .before .before .before .before .before .before .before .before .before .before .before .before .before .before .before .pre .1 .0) _ _ _ _ _ (c .before .before .before .before .before .before .loop .inv) (c .before .before .before .before .before .loop-test .taken) _ (c .before .before .before .best-next .ensures .1), row-low (c .before .before .before .before .before .before .before .before .before .before .before .before .before .before .before .args .queue) (c .before .before .before .before .before .before .before .before .before .before .before .before .before .before .before .pre .0) _ _ _ _ (c .before .before .before .before .before .before .before .before .before .before .before .before .before .before .before .pre .1 .0) _ _ _ _ _ (c .before .before .before .before .before .before .loop .inv) (c .before .before .before .before .before .loop-test .taken) _ (c .before .before .before .best-next .ensures .1)), (c .before .before .before .before .before .before .loop .inv .left-long, (p .counts-long, (p .jobs-long, (job-left (c .before .before .before .before .before .before .before .before .before .before .before .before .before .before .before .args .queue) (c .before .before .before .before .before .before .before .before .before .before .before .before .before .before .before .pre .0) _ _ _ _ (c .before .before .before .before .before .before .before .before .before .before .before .before .before .before .before .pre .1 .0) _ _ _ _ _ (c .before .before .before .before .before .before .loop .inv) (c .before .before .before .before .before .loop-test .taken) _ (c .before .before .before .best-next .ensures .1), (left-within (c .before .before .before .before .before .before .before .before .before .before .before .before .before .before .before .args .queue) (c .before .before .before .before .before .before .before .before .before .before .before .before .before .before .before .pre .0) _ _ _ _ (c .before .before .before .before .before .before .before .before .before .before .before .before .before .before .before .pre .1 .0) _ _ _ _ _ (c .before .before .before .before .before .before .loop .inv) (c .before .before .before .before .before .loop-test .taken) _ (c .before .before .before .best-next .ensures .1), counts-within (c .before .before .before .before .before .before .before .before .before .before .before .before .before .before .before .args .queue) (c .before .before .before .before .before .before .before .before .before .before .before .before .before .before .before .pre .0) _ _ _ _ (c .before .before .before .before .before .before .before .before .before .before .before .before .before .before .before .pre .1 .0) _ _ _ _ _ (c .before .before .before .before .before .before .loop .inv) (c .before .before .before .before .before .loop-test .taken) _ (c .before .before .before .best-next .ensures .1)))))))
+
+array-write-order : tie.Need-array-write-order Inv-loop μ-loop
+array-write-order c = omega (arith, c .before .before .before .before .before .before .before .loop-test .taken, c .before .before .before .before .before .before .before .before .before .before .before .before .before .before .before .before .before .pre .0 .jobs)
+
+sub-index-2 : tie.Need-sub-index-2 Inv-loop μ-loop
+sub-index-2 c = row-low (c .before .before .before .before .before .before .before .before .before .before .before .before .before .before .before .before .before .args .queue) (c .before .before .before .before .before .before .before .before .before .before .before .before .before .before .before .before .before .pre .0) _ _ _ _ (c .before .before .before .before .before .before .before .before .before .before .before .before .before .before .before .before .before .pre .1 .0) _ _ _ _ _ (c .before .before .before .before .before .before .before .before .loop .inv) (c .before .before .before .before .before .before .before .loop-test .taken) _ (c .before .before .before .before .before .best-next .ensures .1)
+
+mul-index : tie.Need-mul-index Inv-loop μ-loop
+mul-index c = record { fits = omega (arith, row-high (c .before .before .before .before .before .before .before .before .before .before .before .before .before .before .before .before .before .args .queue) (c .before .before .before .before .before .before .before .before .before .before .before .before .before .before .before .before .before .pre .0) _ _ _ _ (c .before .before .before .before .before .before .before .before .before .before .before .before .before .before .before .before .before .pre .1 .0) _ _ _ _ _ (c .before .before .before .before .before .before .before .before .loop .inv) (c .before .before .before .before .before .before .before .loop-test .taken) _ (c .before .before .before .before .before .best-next .ensures .1)) }
+
+array-read-index : tie.Need-array-read-index Inv-loop μ-loop
+array-read-index c = omega (arith, row-high (c .before .before .before .before .before .before .before .before .before .before .before .before .before .before .before .before .before .args .queue) (c .before .before .before .before .before .before .before .before .before .before .before .before .before .before .before .before .before .pre .0) _ _ _ _ (c .before .before .before .before .before .before .before .before .before .before .before .before .before .before .before .before .before .pre .1 .0) _ _ _ _ _ (c .before .before .before .before .before .before .before .before .loop .inv) (c .before .before .before .before .before .before .before .loop-test .taken) _ (c .before .before .before .before .before .best-next .ensures .1), row-low (c .before .before .before .before .before .before .before .before .before .before .before .before .before .before .before .before .before .args .queue) (c .before .before .before .before .before .before .before .before .before .before .before .before .before .before .before .before .before .pre .0) _ _ _ _ (c .before .before .before .before .before .before .before .before .before .before .before .before .before .before .before .before .before .pre .1 .0) _ _ _ _ _ (c .before .before .before .before .before .before .before .before .loop .inv) (c .before .before .before .before .before .before .before .loop-test .taken) _ (c .before .before .before .before .before .best-next .ensures .1))
+
+sub-index-3 : tie.Need-sub-index-3 Inv-loop μ-loop
+sub-index-3 c = stride-within (c .before .before .before .before .before .before .before .before .before .before .before .before .before .before .before .before .before .args .queue) (c .before .before .before .before .before .before .before .before .before .before .before .before .before .before .before .before .before .pre .0) _ _ _ _ (c .before .before .before .before .before .before .before .before .before .before .before .before .before .before .before .before .before .pre .1 .0) _ _ _ _ _ (c .before .before .before .before .before .before .before .before .loop .inv) (c .before .before .before .before .before .before .before .loop-test .taken) _ (c .before .before .before .before .before .best-next .ensures .1)
+
+loop-again : tie.Need-loop-again Inv-loop μ-loop
+loop-again c = on-next (c .before .before .before .before .before .before .before .before .before .before .before .before .before .before .before .before .before .args .queue) (c .before .before .before .before .before .before .before .before .before .before .before .before .before .before .before .before .before .pre .0) _ _ _ _ (c .before .before .before .before .before .before .before .before .before .before .before .before .before .before .before .before .before .pre .1 .0) _ _ _ _ _ (c .before .before .before .before .before .before .before .before .loop .inv) (c .before .before .before .before .before .before .before .loop-test .taken) _ (c .before .before .before .before .before .best-next .ensures .1) _ _ (c .before .take-job .ensures .0) (c .before .take-job .ensures .1)
+
+returns : tie.Need-returns Inv-loop μ-loop
+returns c = on-end (c .before .before .before .before .before .before .before .before .before .before .args .queue) (c .before .before .before .before .before .before .before .before .before .before .pre .0) _ _ _ _ (c .before .before .before .before .before .before .before .before .before .before .pre .1 .0) _ _ _ _ _ (c .before .loop .inv) (c .loop-test .left)
+
+pub follow-spec : {M : Type 1} → statement M
+follow-spec =
+    tie.close
+    (tie.spec
+    Inv-loop
+    μ-loop
+    (λ c. search needs)
+    (λ c. search needs)
+    sub-index
+    loop-holds
+    (λ c. search needs)
+    best-next-requires
+    (λ c. search needs)
+    (λ c. search needs)
+    (λ c. search needs)
+    sub-take-job
+    take-job-requires
+    (λ c. search needs)
+    array-write-order
+    sub-index-2
+    mul-index
+    array-read-index
+    sub-index-3
+    (λ c. search needs)
+    (λ c. search needs)
+    loop-again
+    returns)
