@@ -1,7 +1,7 @@
 -- Filling, index by index: the loop's invariant, what each stage may rely on, and what a turn does.
 -- Assumes nothing.
-use Prim.Native.Nat.{ℕ, zero, suc, pred, _+_, _-_, _*_, _/_, _%_, _^_, _≤_, _<_}
-use mathlib.Core.Bool.{Bool, true, false, cond}
+use Prim.Native.Nat.{ℕ, zero, suc, _+_, _-_, _*_, _/_, _%_, _^_, _≤_, _<_}
+use mathlib.Core.Bool.{cond}
 use mathlib.Core.List.{List, _∷_}
 use mathlib.Core.Logic.{inl, inr}
 use mathlib.Core.Option.{Option, none, some}
@@ -9,7 +9,7 @@ use mathlib.Core.Path.{_≡_, refl, sym, ap, _∙_}
 use native.Mathlib.Nat.{div-add-mod', mod-lt, div-lt-iff-lt-mul, mul-comm, mul-le-mul, suc-mul, eq-or-lt-of-le}
 use native.Mathlib.Numerals.{add-one}
 use native.Mathlib.Omega.{arith}
-use lib.Arith.{digits-div, digits-mod}
+use lib.Arith.{digits-mod}
 use lib.Dec.{ltb}
 use lib.ListN.{length, getD, take, replicate}
 use borrow.Author.Tests.{lt-ltb, le-ltb}
@@ -17,25 +17,23 @@ use Rattle.number.proofs.Steps.{below-or-not}
 use Rattle.queue.specs.declared.Queue.{Queue}
 use Rattle.queue.specs.Record.{Valid}
 use Rattle.sequencing.specs.Lists.{at, sum, sumBelow}
-use Rattle.sequencing.specs.Problem.{T}
-use Rattle.sequencing.specs.States.{complete, all, place}
-use Rattle.sequencing.specs.Least.{least}
-use Rattle.sequencing.specs.Recursion.{W, value, choice}
-use Rattle.sequencing.specs.Entries.{size, index, stride, digits, block, entries, entry, entryKind, entryLeft}
+use Rattle.sequencing.specs.States.{all, place}
+use Rattle.sequencing.specs.Recursion.{W, value}
+use Rattle.sequencing.specs.Entries.{index, digits, block, entries, entry, entryKind, entryLeft}
 use Rattle.sequencing.specs.Counts.{found, feasibleStates}
-use Rattle.sequencing.proofs.AllJobs.{length-all, at-all, left-small, below-all, sum-all}
+use Rattle.sequencing.proofs.AllJobs.{length-all, left-small}
 use Rattle.sequencing.proofs.Bounds.{choice-limit, limit-fits}
 use Rattle.sequencing.proofs.Entries.{left-digits}
 use Rattle.sequencing.proofs.LoopOrder.{count-by-left}
 use Rattle.sequencing.proofs.Radix.{size-pos, stride-pos}
 use Rattle.sequencing.proofs.Vectors.{at-sum}
 use Rattle.problem.specs.Problem.{problem}
-use Rattle.problem.proofs.Rule.{jobs-is, proper, limits, few-jobs}
+use Rattle.problem.proofs.Rule.{jobs-is, limits, few-jobs}
 use Rattle.states.specs.Steps.{next}
 use Rattle.states.proofs.Stepping.{next-digits, digits-zero}
 use Rattle.table.specs.Entries.{stored, loaded, candidate, permittedAt, filling, Ready}
 use Rattle.filling.specs.declared.Shape.{Shape}
-use Rattle.filling.specs.Prepared.{Prepared, Earlier, Arrays, kOf, weightOf, entryFrom, Staged}
+use Rattle.filling.specs.Prepared.{Prepared, Earlier, Arrays, weightOf, entryFrom, Staged}
 use Rattle.filling.proofs.Values.{left-at, next-at, candidate-is, filling-is}
 use Rattle.filling.proofs.Staging.{sum-ext}
 use Rattle.filling.proofs.Preparing.{counts-all, counts-few, entries-fit}

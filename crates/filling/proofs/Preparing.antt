@@ -1,6 +1,6 @@
 -- The counts that were listed are all K_j, and few.
 -- Assumes nothing.
-use Prim.Native.Nat.{ℕ, zero, suc, _+_, _*_, _^_, _≤_, _<_}
+use Prim.Native.Nat.{ℕ, zero, suc, _^_, _≤_, _<_}
 use mathlib.Core.List.{List, [], _∷_}
 use mathlib.Core.Path.{_≡_, sym, ap, _∙_}
 use native.Mathlib.Nat.{le-trans, pow-suc, mul-le-mul, pow-le-pow-right}
@@ -9,8 +9,8 @@ use lib.ListN.{length, getD, take}
 use lib.Seq.{length-take-le, getD-take, ext-getD}
 use Rattle.queue.specs.declared.Queue.{Queue}
 use Rattle.queue.specs.Record.{Valid}
-use Rattle.sequencing.specs.Lists.{at, sum}
-use Rattle.sequencing.specs.States.{K, all}
+use Rattle.sequencing.specs.Lists.{at}
+use Rattle.sequencing.specs.States.{all}
 use Rattle.sequencing.specs.Entries.{size, stride, block, entries}
 use Rattle.sequencing.proofs.AllJobs.{at-all, length-all, sum-all}
 use Rattle.sequencing.proofs.Vectors.{at-sum}

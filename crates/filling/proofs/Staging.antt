@@ -1,17 +1,15 @@
 -- One stage: the marks, the weight and the jobs left that the code passes on are those of the definition.
 -- Assumes nothing.
-use Prim.Native.Nat.{ℕ, zero, suc, _+_, _-_, _*_, _≤_, _<_}
+use Prim.Native.Nat.{ℕ, zero, suc, _+_, _-_, _≤_, _<_}
 use mathlib.Core.Bool.{Bool, true, false, cond}
 use mathlib.Core.List.{List}
-use mathlib.Core.Path.{_≡_, refl, sym, ap, ap₂, _∙_}
+use mathlib.Core.Path.{_≡_, refl, ap₂}
 use native.Mathlib.Omega.{arith}
 use lib.Dec.{eqb}
-use lib.ListN.{length, getD}
 use Rattle.sequencing.specs.Lists.{at, sum, sumBelow}
-use Rattle.sequencing.specs.Counts.{found}
-use Rattle.table.specs.Entries.{stored, permittedAt, filling, Ready}
+use Rattle.table.specs.Entries.{permittedAt, filling}
 use Rattle.filling.specs.declared.Shape.{Shape}
-use Rattle.filling.specs.Prepared.{Arrays, kOf, weightOf, entryFrom, Staged}
+use Rattle.filling.specs.Prepared.{Arrays, kOf, weightOf, entryFrom}
 
 marked : (t : Bool) → eqb (cond t 1 0) 1 ≡ t
 marked true = refl

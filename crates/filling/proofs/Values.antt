@@ -1,35 +1,34 @@
 -- What the code computes from arrays and earlier entries is the recursion's value.
 -- Assumes nothing.
-use Prim.Native.Nat.{ℕ, zero, suc, pred, _+_, _-_, _*_, _^_, _≤_, _<_}
-use mathlib.Core.Bool.{Bool, true, false, cond, _&&_}
+use Prim.Native.Nat.{ℕ, zero, suc, _+_, _-_, _*_, _^_, _≤_, _<_}
 use mathlib.Core.List.{List}
 use mathlib.Core.Logic.{inl, inr}
 use mathlib.Core.Option.{Option, none, some}
 use mathlib.Core.Path.{_≡_, refl, sym, ap, ap₂, _∙_}
 use native.Mathlib.Nat.{eq-zero-or-pos}
 use native.Mathlib.Omega.{arith}
-use lib.Dec.{T as Is, leb, ltb, eqb, eqb→eq}
-use lib.ListN.{length, getD, take}
+use lib.Dec.{ltb, eqb, eqb→eq}
+use lib.ListN.{getD, take}
 use lib.Seq.{getD-take}
-use borrow.Author.Tests.{lt-ltb, le-ltb, ltb-true, ltb-false, eq-eqb, ne-eqb}
+use borrow.Author.Tests.{ltb-true, eq-eqb, ne-eqb}
 use Rattle.number.proofs.Steps.{bool-cases}
 use Rattle.queue.specs.declared.Queue.{Queue}
-use Rattle.queue.specs.Record.{gap, weight, firstPlace, lastPlace, kind, Valid}
-use Rattle.sequencing.specs.Lists.{at, sum, weigh, upto}
-use Rattle.sequencing.specs.Problem.{Problem, T, kind as kindIn}
-use Rattle.sequencing.specs.States.{complete, jobsOf, K, all, IsLeft, IsPair, job, place}
-use Rattle.sequencing.specs.Least.{only, plus, lower, reaches, least, argLeast}
-use Rattle.sequencing.specs.Recursion.{W, permit, step, value, choice}
-use Rattle.sequencing.specs.Entries.{stride, index, digits, block}
-use Rattle.sequencing.proofs.AllJobs.{length-all, all-left, at-all, below-all}
+use Rattle.queue.specs.Record.{kind, Valid}
+use Rattle.sequencing.specs.Lists.{at, sum, upto}
+use Rattle.sequencing.specs.Problem.{T, kind as kindIn}
+use Rattle.sequencing.specs.States.{complete, jobsOf, K, all, place}
+use Rattle.sequencing.specs.Least.{only, lower, least, argLeast}
+use Rattle.sequencing.specs.Recursion.{W, permit, value, choice}
+use Rattle.sequencing.specs.Entries.{index, digits, block}
+use Rattle.sequencing.proofs.AllJobs.{length-all, below-all}
 use Rattle.sequencing.proofs.Counting.{getD-filter}
 use Rattle.sequencing.proofs.Entries.{left-digits, next-earlier}
 use Rattle.sequencing.proofs.Equations.{value-none-left, value-some-left}
 use Rattle.sequencing.proofs.JobsLeft.{next-pair}
-use Rattle.sequencing.proofs.Radix.{index-in, digits-index, index-digits, index-complete}
-use Rattle.sequencing.proofs.Vectors.{complete-length, at-in}
-use Rattle.problem.specs.Problem.{distance, allowed, problem}
-use Rattle.problem.proofs.Rule.{jobs-is, kind-is}
+use Rattle.sequencing.proofs.Radix.{digits-index, index-digits, index-complete}
+use Rattle.sequencing.proofs.Vectors.{at-in}
+use Rattle.problem.specs.Problem.{allowed, problem}
+use Rattle.problem.proofs.Rule.{kind-is}
 use Rattle.problem.proofs.Queues.{value-fits}
 use Rattle.table.specs.Entries.{stored, loaded, candidate, permittedAt, filling}
 use Rattle.filling.specs.Prepared.{Prepared, Earlier}

@@ -3,16 +3,16 @@ use queue::Queue;
 use table::Stage;
 ghost use mathlib.Core.Path.{_≡_};
 ghost use mathlib.Core.Bool.{cond};
-ghost use Prim.Native.Nat.{ℕ, _+_, _-_, _*_, _^_, _≤_, _<_};
+ghost use Prim.Native.Nat.{ℕ, _+_, _-_, _*_, _≤_, _<_};
 ghost use lib.Dec.{ltb, eqb};
 ghost use lib.ListN.{length, getD, take};
 ghost use Rattle.queue.specs.Record.{Valid};
-ghost use Rattle.sequencing.specs.Lists.{at, sum, weigh, sumBelow};
+ghost use Rattle.sequencing.specs.Lists.{weigh, sumBelow};
 ghost use Rattle.sequencing.specs.Entries.{entries, entry};
 ghost use Rattle.sequencing.specs.Counts.{found, feasibleStates};
 ghost use Rattle.problem.specs.Problem.{problem};
 ghost use Rattle.table.specs.Entries.{stored};
-ghost use Rattle.filling.specs.Prepared.{Prepared, Arrays, weightOf, entryFrom, Staged};
+ghost use Rattle.filling.specs.Prepared.{Prepared, entryFrom, Staged};
 
 // What is prepared once a call.
 pub struct Setup {

@@ -70,6 +70,17 @@ pub record On (q : Queue) (order left : List ℕ) (row i place : ℕ) : Type 0 w
   pub gone : sum (digits (all (problem q)) i) + place ≡ q .jobs
   pub rest : sets order place (byHandIn (problem q) (digits (all (problem q)) i) (walk (problem q) (sum (digits (all (problem q)) i)) row (digits (all (problem q)) i))) ≡ filled 60 (planOrder (problem q))
 
+-- what taking a job of kind x may rely on, and what is followed then
+pub record Taking (q : Queue) (counts jobs strides order left : List ℕ) (i place x : ℕ) : Type 0 where
+  pub low : 1 ≤ x
+  pub high : x ≤ 5
+  pub job-left : 1 ≤ getD left (x - 1) 0
+  pub left-within : getD left (x - 1) 0 ≤ getD counts (x - 1) 0
+  pub counts-within : getD counts (x - 1) 0 ≤ 60
+  pub stride-within : getD strides (x - 1) 0 ≤ i
+  pub on : (j : ℕ) (left′ : List ℕ) → j ≡ getD jobs (60 * (x - 1) + (getD counts (x - 1) 0 - getD left (x - 1) 0)) 0
+      → left′ ≡ set left (x - 1) (getD left (x - 1) 0 - 1) → On q (set order place j) left′ x (i - getD strides (x - 1) 0) (place + 1)
+
 some-cost : (r : Option ℕ) → (r ≡ none → ⊥) → (c : ℕ) × (r ≡ some c)
 some-cost none h = absurd (h refl)
 some-cost (some c) h = (c, refl)
@@ -82,7 +93,6 @@ module _ (q : Queue) (v : Valid q) (counts jobs strides : List ℕ) (n : ℕ) (p
   pub on-start : (planCost (problem q) ≡ none → ⊥) → On q (replicate 60 0) counts (q .start) (n - 1) 0
   unfolding planCost planOrder planKinds
   on-start h =
-      let a = all (problem q) in
       let e = last-is q v counts jobs strides n p in
       record {
         left-long = p .counts-long;
@@ -104,7 +114,7 @@ module _ (q : Queue) (v : Valid q) (counts jobs strides : List ℕ) (n : ℕ) (p
         let z : sum k ≡ 0 = omega (arith, o .gone) in
         (rw z at (o .rest))
 
-    -- the table's next kind: what taking its job may rely on, and what is followed then
+    -- the table's next kind
     module _ (h : place < q .jobs) (x : ℕ) (is : (c : ℕ) → least (choice (problem q) row k) (q .kinds) ≡ some c → x ≡ argLeast (choice (problem q) row k) (q .kinds)) where
       next : Next (problem q) row k x
       next = next-is (problem q) row k (o .found .0) x (omega (arith, o .gone)) (o .found .1) is
@@ -118,25 +128,7 @@ module _ (q : Queue) (v : Valid q) (counts jobs strides : List ℕ) (n : ℕ) (p
       counted : getD counts (x - 1) 0 ≡ K (problem q) x
       counted = sym (at-minus counts x (next .low)) ∙ p .listed .counts-are x (next .low) (next .high)
 
-      pub row-low : 1 ≤ x
-      row-low = next .low
-
-      pub row-high : x ≤ 5
-      row-high = omega (arith, next .high, v .kinds)
-
-      pub job-left : 1 ≤ getD left (x - 1) 0
-      job-left = omega (arith, there, next .some-left)
-
-      pub left-within : getD left (x - 1) 0 ≤ getD counts (x - 1) 0
-      left-within = omega (arith, there, counted, left-digits (problem q) i .within x)
-
-      pub counts-within : getD counts (x - 1) 0 ≤ 60
-      counts-within = counts-few q v counts jobs (p .listed) (p .counts-long) (x - 1) (omega (arith, next .low, next .high))
-
-      pub stride-within : getD strides (x - 1) 0 ≤ i
-      stride-within = omega (arith, lower-index)
-
-      pub on-next : (j : ℕ) (left′ : List ℕ) → j ≡ getD jobs (60 * (x - 1) + (getD counts (x - 1) 0 - getD left (x - 1) 0)) 0
+      on-next : (j : ℕ) (left′ : List ℕ) → j ≡ getD jobs (60 * (x - 1) + (getD counts (x - 1) 0 - getD left (x - 1) 0)) 0
           → left′ ≡ set left (x - 1) (getD left (x - 1) 0 - 1) → On q (set order place j) left′ x (i - getD strides (x - 1) 0) (place + 1)
       on-next j left′ ej el =
           let P = problem q in
@@ -161,3 +153,14 @@ module _ (q : Queue) (v : Valid q) (counts jobs strides : List ℕ) (n : ℕ) (p
             gone = rw d (omega (arith, complete-sum k x (next .some-left), o .gone));
             rest = rw (d, taken) (ap (λ (a : ℕ). sets (set order place (job P x k′)) a later) (omega arith) ∙ ap (sets order place) (sym (next .jobs)) ∙ o .rest);
           }
+
+      pub taking : Taking q counts jobs strides order left i place x
+      taking = record {
+        low = next .low;
+        high = omega (arith, next .high, v .kinds);
+        job-left = omega (arith, there, next .some-left);
+        left-within = omega (arith, there, counted, left-digits (problem q) i .within x);
+        counts-within = counts-few q v counts jobs (p .listed) (p .counts-long) (x - 1) (omega (arith, next .low, next .high));
+        stride-within = omega (arith, lower-index);
+        on = on-next;
+      }

@@ -2,12 +2,13 @@
 -- Assumes nothing.
 use Prim.Native.Nat.{_-_, _^_, _<_, _≤_}
 use mathlib.Core.Path.{_≡_}
-use mathlib.Core.Bool.{true, false}
+use mathlib.Core.Bool.{Bool}
 use mathlib.Core.List.{[]}
 use native.Mathlib.Omega.{arith}
 use lib.ListN.{length, take}
 use Rattle.refusal.specs.declared.Reason.the-variants.{Malformed, Goal, Jobs, Job}
 use Rattle.refusal.specs.declared.Verdict.the-variants.{Accepted, Refused}
+use Rattle.fields.specs.Messages.{check}
 use Rattle.fields.proofs.Judged.{low-out, high-out, true-within}
 use Rattle.plan.specs.declared.Plan.{Plan}
 use Rattle.plan.specs.Writing.{allFresh, judge}
@@ -45,21 +46,10 @@ module _ (p : Plan) where
             )
 
         module _ (j : p .jobs ≤ 60) (room : p .jobs ≤ length (p .order)) where
-          pub judge-order : allFresh (p .jobs) [] (take (p .jobs) (p .order)) ≡ false → Refused Job ≡ judge p
+          -- the last check, whichever way it goes
+          pub judge-order : (b : Bool) → allFresh (p .jobs) [] (take (p .jobs) (p .order)) ≡ b → check b Job Accepted ≡ judge p
           unfolding judge
-          judge-order h =
-              rw (
-                true-within 1 2 (p .goal) l u,
-                true-within 0 (2 ^ 42 - 1) (p .cost) (omega arith) c,
-                true-within 0 (2 ^ 42 - 1) (p .«feasible_states») (omega arith) s,
-                true-within 0 60 (p .jobs) (omega arith) j,
-                job-list-part p room,
-                h,
-              )
-
-          pub judge-accepted : allFresh (p .jobs) [] (take (p .jobs) (p .order)) ≡ true → Accepted ≡ judge p
-          unfolding judge
-          judge-accepted h =
+          judge-order b h =
               rw (
                 true-within 1 2 (p .goal) l u,
                 true-within 0 (2 ^ 42 - 1) (p .cost) (omega arith) c,

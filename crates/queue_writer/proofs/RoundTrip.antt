@@ -7,7 +7,6 @@ use mathlib.Core.List.{List, append-assoc}
 use lib.ListN.{length}
 use Rattle.refusal.specs.declared.Verdict.{Verdict}
 use Rattle.refusal.specs.declared.Verdict.the-variants.{Accepted, Refused}
-use Rattle.number.specs.Readers.{found}
 use Rattle.number.proofs.Steps.{below-or-not}
 use Rattle.fields.proofs.Judged.{high-out}
 use Rattle.fields.proofs.Codecs.{Bytes}

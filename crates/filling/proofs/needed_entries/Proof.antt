@@ -1,7 +1,7 @@
 -- `filling::needed_entries` meets its contract.
 -- Assumes nothing.
 use Prim.Native.Nat.{_*_}
-use mathlib.Core.Path.{ap, sym}
+use mathlib.Core.Path.{ap}
 use Rattle.filling.proofs.Preparing.{entries-fit}
 use borrow.Author.Needs.{needs}
 use Rattle.filling.proofs.needed_entries.Statement.{statement}

@@ -1,7 +1,6 @@
 -- `filling::prepare` meets its contract: the jobs are listed, then the strides multiplied out.
 -- Assumes nothing.
 use mathlib.Core.Path.{refl}
-use native.Mathlib.Omega.{arith}
 use Rattle.filling.proofs.Preparing.{counts-few, prepared}
 use borrow.Author.Needs.{needs}
 use Rattle.filling.proofs.prepare.Statement.{statement}

@@ -1,10 +1,11 @@
 -- `plan_writer::judge_plan` meets its contract: one check of the definition after the other.
 -- Assumes nothing.
 use Prim.Native.Nat.{_≤_}
+use mathlib.Core.Bool.{true, false}
 use mathlib.Core.Path.{sym, _∙_}
 use lib.ListN.{length}
 use borrow.Author.Tests.{not-true, not-false}
-use Rattle.plan_writer.proofs.Judging.{judge-low, judge-goal, judge-cost, judge-states, judge-jobs, judge-order, judge-accepted}
+use Rattle.plan_writer.proofs.Judging.{judge-low, judge-goal, judge-cost, judge-states, judge-jobs, judge-order}
 use borrow.Author.Needs.{needs}
 use Rattle.plan_writer.proofs.judge_plan.Statement.{statement}
 use Rattle.plan_writer.proofs.judge_plan.Tie as tie
@@ -35,10 +36,10 @@ all-fresh-requires : tie.Need-all-fresh-requires
 all-fresh-requires c κs = room c
 
 returns-6 : tie.Need-returns-6
-returns-6 c = judge-order _ (c .before .before .before .before .before .before .before .before .before .before .before .before .if1 .left) (c .before .before .before .before .before .before .before .before .before .before .if2 .left) (c .before .before .before .before .before .before .before .before .if3 .left) (c .before .before .before .before .before .before .if4 .left) (c .before .before .before .before .if5 .left) (room (c .before .before)) (sym (c .before .all-fresh .ensures) ∙ not-true _ (c .if6 .taken))
+returns-6 c = judge-order _ (c .before .before .before .before .before .before .before .before .before .before .before .before .if1 .left) (c .before .before .before .before .before .before .before .before .before .before .if2 .left) (c .before .before .before .before .before .before .before .before .if3 .left) (c .before .before .before .before .before .before .if4 .left) (c .before .before .before .before .if5 .left) (room (c .before .before)) false (sym (c .before .all-fresh .ensures) ∙ not-true _ (c .if6 .taken))
 
 returns-7 : tie.Need-returns-7
-returns-7 c = judge-accepted _ (c .before .before .before .before .before .before .before .before .before .before .before .before .if1 .left) (c .before .before .before .before .before .before .before .before .before .before .if2 .left) (c .before .before .before .before .before .before .before .before .if3 .left) (c .before .before .before .before .before .before .if4 .left) (c .before .before .before .before .if5 .left) (room (c .before .before)) (sym (c .before .all-fresh .ensures) ∙ not-false _ (c .if6 .left))
+returns-7 c = judge-order _ (c .before .before .before .before .before .before .before .before .before .before .before .before .if1 .left) (c .before .before .before .before .before .before .before .before .before .before .if2 .left) (c .before .before .before .before .before .before .before .before .if3 .left) (c .before .before .before .before .before .before .if4 .left) (c .before .before .before .before .if5 .left) (room (c .before .before)) true (sym (c .before .all-fresh .ensures) ∙ not-false _ (c .if6 .left))
 
 pub judge-plan-spec : {M : Type 1} → statement M
 judge-plan-spec =
