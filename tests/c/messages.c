@@ -133,12 +133,13 @@ static size_t random_plan(uint8_t *m)
     at = put(m, at, ((uint64_t)random_below(1u << 30) << 12) + random_below(4096) + (random_below(20) ? 0 : 1ull << 42));
     at = put(m, at, random_below(1u << 30));
     at = put(m, at, t);
-    for (uint64_t i = 0; i < t && i < 61; i++) {
+    for (uint64_t i = 0; i < t; i++) {
         uint64_t k = random_below((unsigned)i + 1);
-        jobs[i] = i < 61 ? jobs[k] : 0;
+        jobs[i] = i + 1;
+        jobs[i] = jobs[k];
         jobs[k] = i + 1;
     }
-    for (uint64_t i = 0; i < t && i < 61; i++)
+    for (uint64_t i = 0; i < t; i++)
         at = put(m, at, random_below(300) ? jobs[i] : near(1, t));
     return at;
 }
