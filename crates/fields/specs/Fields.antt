@@ -21,6 +21,7 @@ abbrev pub onward : Found ℕ → (ℕ → List ℕ) → List ℕ
 onward (found v i) rest = v ∷ rest i
 onward (refused r) rest = []
 
+-- the values of such a run from a position on, up to its first refusal
 unfoldable pub readBefore : ℕ → Reader ℕ → List ℕ → ℕ → List ℕ
 readBefore zero one s at = []
 readBefore (suc n) one s at = onward (one s at) (readBefore n one s)

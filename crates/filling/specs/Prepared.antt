@@ -43,6 +43,7 @@ pub record Arrays : Type 0 where
 abbrev pub kOf : Arrays → Shape → List ℕ
 kOf a n = take (n .kinds) (a .left)
 
+-- 01's W, by the arrays: 1 under goal 1, the sum of k_j × w_j under goal 2
 abbrev pub weightOf : Arrays → Shape → ℕ
 weightOf a n = cond (eqb (n .goal) 1) 1 (weigh (λ j. getD (a .weights) (j - 1) 0) (kOf a n))
 

@@ -5,6 +5,7 @@ use Rattle.refusal.specs.declared.Reason.the-variants.{Ends, Malformed}
 use Rattle.number.specs.Readers.{found, refused}
 use Rattle.number.specs.Numbers.{groupsAt, groups, number, encode}
 
+-- 01's case I, with the longest form that is 3 and two numbers written
 abbrev pub Examples : Type 0
 Examples =
     (number 3 (0x00 ∷ []) 0 ≡ found 0 1)

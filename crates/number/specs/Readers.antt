@@ -17,6 +17,7 @@ abbrev pub andThen : {A B : Type 0} → Found A → (A → ℕ → Found B) → 
 andThen (found a n) next = next a n
 andThen (refused r) next = refused r
 
+-- one step after the other; `>>` where the next needs no value of the first
 infixl 10 _>>=_ _>>_
 abbrev pub _>>=_ : {A B : Type 0} → Reader A → (A → Reader B) → Reader B
 _>>=_ first next s at = andThen (first s at) (λ a n. next a s n)

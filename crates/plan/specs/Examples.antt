@@ -18,6 +18,7 @@ use Rattle.plan.specs.Writing.{message, allFresh, judge, writePlan}
 abbrev bytesA : List ℕ
 bytesA = 0x51 ∷ 0x50 ∷ 0x01 ∷ 0x01 ∷ 0x46 ∷ 0x07 ∷ 0x03 ∷ 0x02 ∷ 0x01 ∷ 0x03 ∷ []
 
+-- the record of A's plan: goal 1, cost 70, 7 kept, jobs 2 1 3
 abbrev planA : Plan
 planA = planOf 1 70 7 3 (2 ∷ 1 ∷ 3 ∷ [])
 
@@ -25,9 +26,11 @@ planA = planOf 1 70 7 3 (2 ∷ 1 ∷ 3 ∷ [])
 abbrev bytesB : List ℕ
 bytesB = 0x51 ∷ 0x50 ∷ 0x01 ∷ 0x02 ∷ 0xC8 ∷ 0x01 ∷ 0x07 ∷ 0x03 ∷ 0x01 ∷ 0x03 ∷ 0x02 ∷ []
 
+-- the record of B's plan: goal 2, cost 200, 7 kept, jobs 1 3 2
 abbrev planB : Plan
 planB = planOf 2 200 7 3 (1 ∷ 3 ∷ 2 ∷ [])
 
+-- both plans both ways, then the refusals, by number
 abbrev pub Examples : Type 0
 Examples =
     (readPlan bytesA ≡ record { verdict = Accepted; plan = planA })

@@ -24,6 +24,7 @@ abbrev pub likeA : (goal shift a₁ a₂ : ℕ) (kinds : List ℕ) → Queue
 likeA goal m a₁ a₂ kinds =
     queueOf 2 goal m 0 ((10 ∷ 10 ∷ []) ∷ (20 ∷ 50 ∷ []) ∷ (40 ∷ 30 ∷ []) ∷ []) (3 ∷ 1 ∷ []) ((a₁, 60) ∷ (a₂, 60) ∷ []) kinds
 
+-- 01's case A: goal 1, shift 1, all places, kinds 1 2 1
 abbrev pub A : Queue
 A = likeA 1 1 1 1 (1 ∷ 2 ∷ 1 ∷ [])
 

@@ -11,10 +11,12 @@ use Rattle.queue.specs.declared.Places.the-variants.{Window, Refused as 
 use Rattle.queue.specs.declared.Head.{Head}
 use Rattle.queue.specs.Reading.{blank}
 
+-- the settings and the position behind them, or the refusal
 abbrev pub asFront : Found Settings → Front
 asFront (found f n) = Known f n
 asFront (refused r) = Unknown r
 
+-- a_j, b_j and the position behind them, or the refusal
 abbrev pub asPlaces : Found (ℕ × ℕ) → Places
 asPlaces (found w n) = Window (w .0) (w .1) n
 asPlaces (refused r) = Closed r
@@ -23,6 +25,7 @@ asPlaces (refused r) = Closed r
 abbrev pub headAs : ℕ → Queue → Head
 headAs n q = record { outcome = Next n; queue = q }
 
+-- a head and the position behind it, or the refusal with the record of zeros
 abbrev pub asHead : Found Queue → Head
 asHead (found q n) = headAs n q
 asHead (refused r) = record { outcome = Stopped r; queue = blank }

@@ -119,6 +119,7 @@ blank = record {
 abbrev pub accepted : Queue → Reading
 accepted q = record { verdict = Accepted; queue = q }
 
+-- the record, or the one refusal with the record of zeros
 abbrev pub asReading : Found Queue → Reading
 asReading (found q n) = accepted q
 asReading (refused r) = record { verdict = Refused r; queue = blank }

@@ -20,10 +20,11 @@ module _ (q : Queue) where
   abbrev pub weight : ℕ → ℕ
   weight j = getD (q .weights) (j - 1) 0
 
-  -- a_j and b_j, the first and the last place allowed to kind j
+  -- a_j, the first place allowed to kind j
   abbrev pub firstPlace : ℕ → ℕ
   firstPlace j = getD (q .«first_places») (j - 1) 0
 
+  -- b_j, the last place allowed to kind j
   abbrev pub lastPlace : ℕ → ℕ
   lastPlace j = getD (q .«last_places») (j - 1) 0
 

@@ -34,6 +34,7 @@ with i bytes = take i bytesA ++ bytes ++ drop (i + 1) bytesA
 abbrev bytesG : List ℕ
 bytesG = take 19 bytesA ++ (0x00 ∷ [])
 
+-- A, B and G both ways or read, case I, then the refusals, by number
 abbrev pub Examples : Type 0
 Examples =
     (readQueue bytesA ≡ accepted (queueOf 2 1 3 (1 ∷ 2 ∷ 1 ∷ [])))

@@ -7,13 +7,16 @@ use Rattle.refusal.specs.declared.Written.{Written}
 use Rattle.refusal.specs.declared.Written.the-variants.{Bytes, Refused as NotWritten}
 use Rattle.refusal.specs.Reasons.{reasonNumber, needed}
 
+-- R is the refusal, V the needed entries for 16, else 0
 abbrev pub refusalNumber : Reason → ℕ
 refusalNumber r = reasonNumber r + 256 * needed r
 
+-- a reading: R and V are 0 where the message is accepted
 abbrev pub verdictNumber : Verdict → ℕ
 verdictNumber Accepted = 0
 verdictNumber (Refused r) = refusalNumber r
 
+-- a writing: V is the number of bytes written
 abbrev pub writtenNumber : Written → ℕ
 writtenNumber (Bytes n) = 256 * n
 writtenNumber (NotWritten r) = refusalNumber r

@@ -4,6 +4,7 @@ use mathlib.Core.Bool.{cond}
 use mathlib.Core.List.{List, [], _∷_}
 use lib.Dec.{ltb}
 
+-- k with one job of the first kind more that has one to add, and none of the kinds before it
 unfoldable pub next : List ℕ → List ℕ → List ℕ
 next [] k = []
 next (c ∷ cs) [] = []
