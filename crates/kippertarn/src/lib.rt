@@ -23,7 +23,7 @@ fn verdict_number(verdict: Verdict) -> u64
 pub extern "C" fn kippertarn_check_queue(message: &[u8]) -> u64
     ensures { λ r. ⌜ r ≡ verdictNumber (readQueue (now (message .entry)) .verdict) ⌝ }
 {
-    let reading = queue::read_queue(message);
+    let reading = queue_reader::read_queue(message);
     let verdict = reading.verdict;
     verdict_number(verdict)
 }
