@@ -33,7 +33,7 @@ pub extern "C" fn kippertarn_check_queue(message: &[u8]) -> u64
 pub extern "C" fn kippertarn_check_plan(message: &[u8]) -> u64
     ensures { λ r. ⌜ r ≡ verdictNumber (readPlan (now (message .entry)) .verdict) ⌝ }
 {
-    let reading = plan::read_plan(message);
+    let reading = plan_reader::read_plan(message);
     let verdict = reading.verdict;
     verdict_number(verdict)
 }
