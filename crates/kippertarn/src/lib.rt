@@ -57,7 +57,7 @@ fn answer_number(answer: Answer) -> u64
 pub extern "C" fn kippertarn_check_queue(message: &[u8]) -> u64
     ensures { λ r. ⌜ r ≡ verdictNumber (readQueue (now (message .entry)) .verdict) ⌝ }
 {
-    let reading = queue::read_queue(message);
+    let reading = queue_reader::read_queue(message);
     let verdict = reading.verdict;
     verdict_number(verdict)
 }
@@ -67,7 +67,7 @@ pub extern "C" fn kippertarn_check_queue(message: &[u8]) -> u64
 pub extern "C" fn kippertarn_check_plan(message: &[u8]) -> u64
     ensures { λ r. ⌜ r ≡ verdictNumber (readPlan (now (message .entry)) .verdict) ⌝ }
 {
-    let reading = plan::read_plan(message);
+    let reading = plan_reader::read_plan(message);
     let verdict = reading.verdict;
     verdict_number(verdict)
 }

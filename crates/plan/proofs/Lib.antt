@@ -1,7 +1,3 @@
-pub mod Standing
-pub mod Orders
-pub mod Fronts
-pub mod Whole
 pub mod Fresh
 pub mod JobLists
 pub mod Judging

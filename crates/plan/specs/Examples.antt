@@ -59,8 +59,10 @@ Examples =
     × (readPlan (0x51 ∷ 0x50 ∷ 0x01 ∷ 0x01 ∷ 0x46 ∷ 0x07 ∷ 0x00 ∷ 0x00 ∷ []) ≡ asReading (refused Trailing))
     -- writing: 3 before 12, 15 last
     × (judge (planOf 1 (2 ^ 42) 7 61 []) ≡ Refused Malformed)
+    × (judge (planOf 1 70 (2 ^ 42) 61 []) ≡ Refused Malformed)
     × (judge (planOf 1 70 7 61 []) ≡ Refused Jobs)
     × (judge (planOf 3 (2 ^ 42) 7 61 []) ≡ Refused Goal)
+    × (judge (planOf 1 70 7 2 (1 ∷ 3 ∷ [])) ≡ Refused Job)
     × (writePlan planA 77 ≡ Bytes 10)
     × (writePlan planA 76 ≡ NotWritten Buffer)
     × (writePlan (planOf 1 70 7 2 (1 ∷ 1 ∷ [])) 76 ≡ NotWritten Job)
@@ -68,6 +70,8 @@ Examples =
 pub examples : Examples
 unfolding groupsAt groups encode opens tabulate flatMap standsIn order plan readPlan message allFresh judge writePlan
 examples = (
+  refl,
+  refl,
   refl,
   refl,
   refl,

@@ -25,7 +25,7 @@ fn all_fresh(order: &[u32], jobs: u32) -> bool
         if jobs < job {
             return false;
         }
-        if plan::stands_in(order, k, job) {
+        if plan_jobs::stands_in(order, k, job) {
             return false;
         }
         k = k + 1;

@@ -46,7 +46,7 @@ pub fn plan(message: &[u8], table: &mut [u64], buffer: &mut [u8]) -> Answer
     ensures { λ _. ⌜ Leaves (ending (readQueue (now (message .entry))) (length (now (table .entry))) (length (now (buffer .entry)))) (now (table .entry)) (now (buffer .entry)) (now (table .exit)) (now (buffer .exit)) ⌝ }
     ensures { λ r. ⌜ BestOrder (now (message .entry)) (now (table .entry)) (now (buffer .entry)) (now (table .exit)) (now (buffer .exit)) (answerNumber r) ⌝ }
 {
-    let reading = queue::read_queue(message);
+    let reading = queue_reader::read_queue(message);
     let verdict = reading.verdict;
     match verdict {
         Verdict::Refused(why) => Answer::Refused(why),

@@ -1,26 +1,24 @@
--- What each part of the reader finds, from what its steps found.
+-- What each part of the message is read as, from what its steps found.
 -- Assumes nothing.
 use Prim.Native.Nat.{ℕ, _+_}
 use mathlib.Core.Path.{_≡_}
 use mathlib.Core.Bool.{true, false}
-use mathlib.Core.List.{List, map}
-use native.Mathlib.Omega.{arith}
+use mathlib.Core.List.{List}
 use lib.Dec.{eqb}
-use lib.ListN.{length, replicate}
+use lib.ListN.{length}
 use Rattle.refusal.specs.declared.Reason.{Reason}
-use Rattle.refusal.specs.declared.Reason.the-variants.{Opening, Edition, Weight, Jobs, Kind, Trailing}
+use Rattle.refusal.specs.declared.Reason.the-variants.{Opening, Edition, Gap, Weight, Jobs, Kind, Trailing}
 use Rattle.number.specs.Readers.{Found, found, refused, Reader, times}
-use Rattle.fields.specs.declared.Outcome.the-variants.{Next, Refused as Stopped}
 use Rattle.fields.specs.Fields.{field, within}
-use Rattle.fields.specs.Lists.{filled}
 use Rattle.fields.specs.Messages.{opens}
 use Rattle.queue.specs.declared.Queue.{Queue}
 use Rattle.queue.specs.declared.Settings.{Settings}
-use Rattle.queue.specs.Reading.{window, placed, settings, headOf, tables, head, withJobs, jobs, closed, queue}
-use Rattle.queue.specs.Answers.{asHead}
-use Rattle.queue.proofs.Loops.{gapField}
+use Rattle.queue.specs.Reading.{window, settings, headOf, tables, head, withJobs, jobs, closed, queue}
 
--- one weight, and one job's kind
+-- one gap, one weight, and one job's kind
+abbrev pub gapField : Reader ℕ
+gapField = field 3 (within 0 65535) Gap
+
 abbrev pub weightField : Reader ℕ
 weightField = field 3 (within 0 1000) Weight
 
@@ -96,48 +94,3 @@ module _ (s : List ℕ) where
       pub the-queue : (q : Queue) (b : ℕ) → head s a ≡ found q b → queue s 0 ≡ closed (jobs q) s b
       unfolding queue
       the-queue q b h = rw (o, e, h)
-
--- what the code's answer says of the definition's
-pub as-head : (f : Found Queue) (n : ℕ) → asHead f .outcome ≡ Next n → f ≡ found (asHead f .queue) n
-as-head (found q m) n e = let p : m ≡ n = cc in λ i. found q (p i)
-as-head (refused r) n e = let z : _≡_ {A = ℕ} 0 1 = cc in absurd (omega arith)
-
-pub as-no-head : (f : Found Queue) (r : Reason) → asHead f .outcome ≡ Stopped r → f ≡ refused r
-as-no-head (found q m) r e = let z : _≡_ {A = ℕ} 0 1 = cc in absurd (omega arith)
-as-no-head (refused q) r e = let p : q ≡ r = cc in λ i. refused (p i)
-
--- ---- the records that the code builds
-
-module _ (f : Settings) (gaps weights first last : List ℕ) where
-  abbrev pub headFrom : Queue
-  headFrom = record {
-    kinds = f .kinds;
-    goal = f .goal;
-    «max_shift» = f .«max_shift»;
-    start = f .start;
-    gaps = gaps;
-    weights = weights;
-    «first_places» = first;
-    «last_places» = last;
-    jobs = 0;
-    «job_kinds» = replicate 60 0;
-  }
-
-  pub head-is : (rows : List (List ℕ)) (ws : List ℕ) (windows : List (ℕ × ℕ)) → gaps ≡ placed (replicate 30 0) 0 rows → weights ≡ filled 5 ws
-      → (first ≡ filled 5 (map (λ w. w .0) windows)) × (last ≡ filled 5 (map (λ w. w .1) windows)) → headFrom ≡ headOf f rows ws windows
-  head-is rows ws windows g w p = rw (g, w, p .0, p .1)
-
-pub jobs-are : (q : Queue) (t : ℕ) (array kinds : List ℕ) → array ≡ filled 60 kinds
-    → record {
-      kinds = q .kinds;
-      goal = q .goal;
-      «max_shift» = q .«max_shift»;
-      start = q .start;
-      gaps = q .gaps;
-      weights = q .weights;
-      «first_places» = q .«first_places»;
-      «last_places» = q .«last_places»;
-      jobs = t;
-      «job_kinds» = array;
-    } ≡ withJobs q t kinds
-jobs-are q t array kinds e = rw e

@@ -1,4 +1,3 @@
-pub mod Parts
-pub mod Loops
+pub mod Windows
 pub mod Chains
 pub mod SettingsRead

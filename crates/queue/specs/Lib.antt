@@ -1,3 +1,4 @@
 pub mod Record
 pub mod Reading
-pub mod Answers
+pub mod Writing
+pub mod Examples

@@ -20,8 +20,7 @@ use Rattle.fields.proofs.Openings.{opens-bytes}
 use Rattle.queue.specs.declared.Queue.{Queue}
 use Rattle.queue.specs.declared.Settings.{Settings}
 use Rattle.queue.specs.Reading.{window, settings, headOf, tables, head, withJobs, jobs, closed, queue}
-use Rattle.queue.proofs.Loops.{gapField}
-use Rattle.queue.proofs.Chains.{weightField, kindField, rowsAt}
+use Rattle.queue.proofs.Chains.{gapField, weightField, kindField, rowsAt}
 use Rattle.queue.proofs.SettingsRead.{SettingsOk}
 use Rattle.queue_laws.proofs.Contents.{RowsOk, WeightsOk, WindowsOk, KindsOk, Contents, ContentsOk, recordOf}
 use Rattle.queue_laws.proofs.Pieces.{windowBytes, window-codec, settingsBytes, settings-codec}

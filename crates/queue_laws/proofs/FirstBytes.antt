@@ -26,9 +26,8 @@ use Rattle.queue.specs.declared.Queue.{Queue}
 use Rattle.queue.specs.declared.Settings.{Settings}
 use Rattle.queue.specs.Record.{windowOk}
 use Rattle.queue.specs.Reading.{window, settings, tables, head, jobs, closed, queue, asReading, readQueue}
-use Rattle.queue.proofs.Parts.{good-window}
-use Rattle.queue.proofs.Loops.{gapField}
-use Rattle.queue.proofs.Chains.{weightField, kindField, rowsAt}
+use Rattle.queue.proofs.Windows.{good-window}
+use Rattle.queue.proofs.Chains.{gapField, weightField, kindField, rowsAt}
 use Rattle.queue.proofs.SettingsRead.{settings-ok}
 use Rattle.queue_laws.proofs.Pieces.{window-codec, settingsBytes, settings-codec}
 

@@ -7,3 +7,8 @@ pub mod Records
 pub mod Zeros
 pub mod FirstBytes
 pub mod Refusals
+pub mod Arrays
+pub mod Judging
+pub mod Lengths
+pub mod Rest
+pub mod RoundTrip

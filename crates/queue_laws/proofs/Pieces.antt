@@ -14,7 +14,7 @@ use Rattle.fields.proofs.Codecs.{Bytes, Stand, Codec, stand-append, past, numbe
 use Rattle.queue.specs.declared.Settings.{Settings}
 use Rattle.queue.specs.Record.{windowOk}
 use Rattle.queue.specs.Reading.{window, settings}
-use Rattle.queue.proofs.Parts.{window-good, good-window}
+use Rattle.queue.proofs.Windows.{window-good, good-window}
 use Rattle.queue.proofs.SettingsRead.{SettingsOk, settings-ok}
 use Rattle.queue_laws.proofs.Contents.{WindowOk}
 

@@ -20,8 +20,7 @@ use Rattle.queue.specs.declared.Queue.{Queue}
 use Rattle.queue.specs.declared.Settings.{Settings}
 use Rattle.queue.specs.Record.{windowOk}
 use Rattle.queue.specs.Reading.{window, settings, tables, head, jobs, closed, queue, asReading, readQueue}
-use Rattle.queue.proofs.Loops.{gapField}
-use Rattle.queue.proofs.Chains.{weightField, kindField, rowsAt}
+use Rattle.queue.proofs.Chains.{gapField, weightField, kindField, rowsAt}
 
 -- one of 01's refusals 1 to 14
 abbrev pub OfMessage : Reason → Type 0

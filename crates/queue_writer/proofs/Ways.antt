@@ -12,7 +12,7 @@ use Rattle.refusal.specs.declared.Verdict.the-variants.{Accepted, Refused}
 use Rattle.refusal.specs.declared.Written.{Written}
 use Rattle.refusal.specs.declared.Written.the-variants.{Bytes, Refused as NotWritten}
 use Rattle.queue.specs.declared.Queue.{Queue}
-use Rattle.queue_writer.specs.Writing.{message, judge, writeQueue, writtenQueue}
+use Rattle.queue.specs.Writing.{message, judge, writeQueue, writtenQueue}
 
 module _ (q : Queue) (buffer : List ℕ) where
   -- the answer, and the buffer after it

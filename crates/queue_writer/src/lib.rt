@@ -11,7 +11,7 @@ ghost use lib.Seq.{sets};
 ghost use Rattle.fields.specs.Fields.{within, all, encodeAll};
 ghost use Rattle.queue.specs.Record.{windowOk};
 ghost use Rattle.queue_writer.specs.Arrays.{gapRows, windowPairs};
-ghost use Rattle.queue_writer.specs.Writing.{encodeWindow, settingsBytes, headBytes, jobBytes, message, judgeSettings, judgeTables, judgeHead, judgeJobs, judge, writeQueue, writtenQueue};
+ghost use Rattle.queue.specs.Writing.{encodeWindow, settingsBytes, headBytes, jobBytes, message, judgeSettings, judgeTables, judgeHead, judgeJobs, judge, writeQueue, writtenQueue};
 
 // Whether a number is from `low` to `high`.
 fn is_within(value: u32, low: u32, high: u32) -> bool

@@ -6,7 +6,7 @@ use mathlib.Core.Path.{sym, ap, _∙_}
 use Rattle.fields.specs.Fields.{all, within}
 use borrow.Author.Tests.{not-true, not-false}
 use Rattle.queue_writer.proofs.Loops.{Testing, test-none, test-more, test-out, test-done}
-use Rattle.queue_writer.proofs.Arrays.{gapRow, row-part}
+use Rattle.queue_laws.proofs.Arrays.{gapRow, row-part}
 use borrow.Author.Needs.{needs}
 use Rattle.queue_writer.proofs.judge_gaps.Statement.{statement}
 use Rattle.queue_writer.proofs.judge_gaps.Tie as tie

@@ -3,8 +3,8 @@
 use mathlib.Core.Path.{sym, ap, _∙_}
 use Rattle.refusal.specs.declared.Verdict.{Verdict}
 use Rattle.refusal.specs.declared.Verdict.the-variants.{Accepted}
-use Rattle.queue_writer.specs.Writing.{judgeTables, judgeHead}
-use Rattle.queue_writer.proofs.Judging.{after, few-kinds, settings-after}
+use Rattle.queue.specs.Writing.{judgeTables, judgeHead}
+use Rattle.queue_laws.proofs.Judging.{after, few-kinds, settings-after}
 use borrow.Author.Needs.{needs}
 use Rattle.queue_writer.proofs.judge_head.Statement.{statement}
 use Rattle.queue_writer.proofs.judge_head.Tie as tie

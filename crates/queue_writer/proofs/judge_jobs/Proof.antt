@@ -7,8 +7,8 @@ use borrow.Author.Tests.{not-true, not-false}
 use native.Mathlib.Omega.{arith}
 use Rattle.fields.specs.Fields.{within, all}
 use Rattle.fields.proofs.Judged.{within-true}
-use Rattle.queue_writer.specs.Writing.{judgeJobs}
-use Rattle.queue_writer.proofs.Arrays.{Sized, list-part}
+use Rattle.queue.specs.Writing.{judgeJobs}
+use Rattle.queue_laws.proofs.Arrays.{Sized, list-part}
 use borrow.Author.Needs.{needs}
 use Rattle.queue_writer.proofs.judge_jobs.Statement.{statement}
 use Rattle.queue_writer.proofs.judge_jobs.Tie as tie

@@ -2,8 +2,8 @@
 -- Assumes nothing.
 use mathlib.Core.Path.{sym, ap, _∙_}
 use Rattle.refusal.specs.declared.Verdict.{Verdict}
-use Rattle.queue_writer.specs.Writing.{judgeJobs, judge}
-use Rattle.queue_writer.proofs.Judging.{after, head-after}
+use Rattle.queue.specs.Writing.{judgeJobs, judge}
+use Rattle.queue_laws.proofs.Judging.{after, head-after}
 use borrow.Author.Needs.{needs}
 use Rattle.queue_writer.proofs.judge_queue.Statement.{statement}
 use Rattle.queue_writer.proofs.judge_queue.Tie as tie

@@ -2,7 +2,7 @@
 -- Assumes nothing.
 use mathlib.Core.Path.{sym, _∙_}
 use borrow.Author.Tests.{not-true, not-false}
-use Rattle.queue_writer.specs.Writing.{judgeSettings}
+use Rattle.queue.specs.Writing.{judgeSettings}
 use borrow.Author.Needs.{needs}
 use Rattle.queue_writer.proofs.judge_settings.Statement.{statement}
 use Rattle.queue_writer.proofs.judge_settings.Tie as tie

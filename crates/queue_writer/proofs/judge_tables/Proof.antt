@@ -6,8 +6,8 @@ use lib.ListN.{length}
 use borrow.Author.Tests.{not-true, not-false}
 use native.Mathlib.Omega.{arith}
 use Rattle.fields.specs.Fields.{within, all}
-use Rattle.queue_writer.specs.Writing.{judgeTables}
-use Rattle.queue_writer.proofs.Arrays.{Sized, list-part}
+use Rattle.queue.specs.Writing.{judgeTables}
+use Rattle.queue_laws.proofs.Arrays.{Sized, list-part}
 use borrow.Author.Needs.{needs}
 use Rattle.queue_writer.proofs.judge_tables.Statement.{statement}
 use Rattle.queue_writer.proofs.judge_tables.Tie as tie

@@ -2,7 +2,7 @@
 -- Assumes nothing.
 use mathlib.Core.Path.{sym}
 use borrow.Author.Tests.{le-leb}
-use Rattle.queue.proofs.Parts.{first-none, last-before}
+use Rattle.queue.proofs.Windows.{first-none, last-before}
 use Rattle.queue_writer.proofs.judge_window.Statement.{statement}
 use Rattle.queue_writer.proofs.judge_window.Tie as tie
 

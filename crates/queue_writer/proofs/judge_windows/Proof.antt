@@ -5,7 +5,7 @@ use mathlib.Core.Path.{sym, ap, _∙_}
 use Rattle.queue.specs.Record.{windowOk}
 use borrow.Author.Tests.{not-true, not-false}
 use Rattle.queue_writer.proofs.Loops.{Testing, test-none, test-more, test-out, test-done}
-use Rattle.queue_writer.proofs.Arrays.{windowPair, pair-at}
+use Rattle.queue_laws.proofs.Arrays.{windowPair, pair-at}
 use borrow.Author.Needs.{needs}
 use Rattle.queue_writer.proofs.judge_windows.Statement.{statement}
 use Rattle.queue_writer.proofs.judge_windows.Tie as tie

@@ -4,7 +4,7 @@ use Prim.Native.Nat.{_+_, _-_}
 use native.Mathlib.Omega.{arith}
 use Rattle.fields.specs.Fields.{encodeAll}
 use Rattle.queue_writer.proofs.Loops.{Writing, writing-none, writing-more, writing-room, writing-done}
-use Rattle.queue_writer.proofs.Arrays.{gapRow, row-part}
+use Rattle.queue_laws.proofs.Arrays.{gapRow, row-part}
 use borrow.Author.Needs.{needs}
 use Rattle.queue_writer.proofs.write_gaps.Statement.{statement}
 use Rattle.queue_writer.proofs.write_gaps.Tie as tie

@@ -8,8 +8,8 @@ use lib.ListN.{length}
 use Rattle.fields.specs.Fields.{encodeAll}
 use Rattle.queue.specs.declared.Queue.{Queue}
 use Rattle.queue.specs.Record.{rows, weightList, windows}
-use Rattle.queue_writer.specs.Writing.{encodeWindow, settingsBytes, headBytes}
-use Rattle.queue_writer.proofs.Arrays.{Sized, list-part}
+use Rattle.queue.specs.Writing.{encodeWindow, settingsBytes, headBytes}
+use Rattle.queue_laws.proofs.Arrays.{Sized, list-part}
 use Rattle.queue_writer.proofs.Pieces.{Wrote, room-first, room-left, wrote-both}
 use borrow.Author.Needs.{needs}
 use Rattle.queue_writer.proofs.write_head.Statement.{statement}

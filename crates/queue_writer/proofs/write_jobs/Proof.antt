@@ -8,8 +8,8 @@ use Rattle.queue.specs.declared.Queue.{Queue}
 use native.Mathlib.Omega.{arith}
 use Rattle.fields.specs.Fields.{encodeAll}
 use Rattle.queue.specs.Record.{kindList}
-use Rattle.queue_writer.specs.Writing.{jobBytes}
-use Rattle.queue_writer.proofs.Arrays.{Sized, list-part}
+use Rattle.queue.specs.Writing.{jobBytes}
+use Rattle.queue_laws.proofs.Arrays.{Sized, list-part}
 use Rattle.queue_writer.proofs.Pieces.{room-first, room-left, wrote-both}
 use borrow.Author.Needs.{needs}
 use Rattle.queue_writer.proofs.write_jobs.Statement.{statement}

@@ -8,7 +8,7 @@ use native.Mathlib.Nat.{zero-add}
 use lib.ListN.{length}
 use Rattle.number.specs.Numbers.{encode}
 use Rattle.queue.specs.declared.Queue.{Queue}
-use Rattle.queue_writer.specs.Writing.{headBytes, jobBytes, message}
+use Rattle.queue.specs.Writing.{headBytes, jobBytes, message}
 use Rattle.queue_writer.proofs.Pieces.{Wrote, room-first, room-left, wrote-both}
 use borrow.Author.Needs.{needs}
 use Rattle.queue_writer.proofs.write_message.Statement.{statement}

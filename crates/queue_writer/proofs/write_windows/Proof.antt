@@ -1,9 +1,9 @@
 -- `queue_writer::write_windows` meets its contract: `Writing` is the invariant; the kinds left fall.
 -- Assumes nothing.
 use Prim.Native.Nat.{_-_}
-use Rattle.queue_writer.specs.Writing.{encodeWindow}
+use Rattle.queue.specs.Writing.{encodeWindow}
 use Rattle.queue_writer.proofs.Loops.{Writing, writing-none, writing-more, writing-room, writing-done}
-use Rattle.queue_writer.proofs.Arrays.{windowPair, pair-at}
+use Rattle.queue_laws.proofs.Arrays.{windowPair, pair-at}
 use borrow.Author.Needs.{needs}
 use Rattle.queue_writer.proofs.write_windows.Statement.{statement}
 use Rattle.queue_writer.proofs.write_windows.Tie as tie

@@ -1,0 +1,1 @@
+// Document 01's cases, collected: only definitions, in specs/.

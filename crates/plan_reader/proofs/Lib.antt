@@ -1,0 +1,4 @@
+pub mod Standing
+pub mod Orders
+pub mod Fronts
+pub mod Whole

@@ -1,0 +1,44 @@
+-- The records that the reader builds.
+-- Assumes nothing.
+use Prim.Native.Nat.{ℕ}
+use mathlib.Core.Path.{_≡_}
+use mathlib.Core.List.{List, map}
+use lib.ListN.{replicate}
+use Rattle.fields.specs.Lists.{filled}
+use Rattle.queue.specs.declared.Queue.{Queue}
+use Rattle.queue.specs.declared.Settings.{Settings}
+use Rattle.queue.specs.Reading.{placed, headOf, withJobs}
+
+module _ (f : Settings) (gaps weights first last : List ℕ) where
+  abbrev pub headFrom : Queue
+  headFrom = record {
+    kinds = f .kinds;
+    goal = f .goal;
+    «max_shift» = f .«max_shift»;
+    start = f .start;
+    gaps = gaps;
+    weights = weights;
+    «first_places» = first;
+    «last_places» = last;
+    jobs = 0;
+    «job_kinds» = replicate 60 0;
+  }
+
+  pub head-is : (rows : List (List ℕ)) (ws : List ℕ) (windows : List (ℕ × ℕ)) → gaps ≡ placed (replicate 30 0) 0 rows → weights ≡ filled 5 ws
+      → (first ≡ filled 5 (map (λ w. w .0) windows)) × (last ≡ filled 5 (map (λ w. w .1) windows)) → headFrom ≡ headOf f rows ws windows
+  head-is rows ws windows g w p = rw (g, w, p .0, p .1)
+
+pub jobs-are : (q : Queue) (t : ℕ) (array kinds : List ℕ) → array ≡ filled 60 kinds
+    → record {
+      kinds = q .kinds;
+      goal = q .goal;
+      «max_shift» = q .«max_shift»;
+      start = q .start;
+      gaps = q .gaps;
+      weights = q .weights;
+      «first_places» = q .«first_places»;
+      «last_places» = q .«last_places»;
+      jobs = t;
+      «job_kinds» = array;
+    } ≡ withJobs q t kinds
+jobs-are q t array kinds e = rw e

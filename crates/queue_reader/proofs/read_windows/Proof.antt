@@ -1,0 +1,86 @@
+-- `queue_reader::read_windows` meets its contract: `Windows` is the invariant; the kinds left fall.
+-- Assumes nothing.
+use Prim.Native.Nat.{ℕ, _-_}
+use mathlib.Core.Path.{refl, sym, ap, _∙_}
+use mathlib.Core.List.{List}
+use native.Mathlib.Omega.{arith}
+use Rattle.fields.proofs.Loops.{loop-stop, loop-stopped, loop-done, loop-stored}
+use Rattle.queue_reader.proofs.Parts.{as-window, as-closed}
+use Rattle.queue_reader.proofs.Loops.{Windows, windows-none, windows-more}
+use borrow.Author.Needs.{needs}
+use Rattle.queue_reader.proofs.read_windows.Statement.{statement}
+use Rattle.queue_reader.proofs.read_windows.Tie as tie
+
+abbrev Inv-loop : tie.InvT-loop
+Inv-loop bytes at kinds first₀ last₀ i₀ kind₀ first last i kind = Windows bytes at kinds first₀ last₀ first last i kind
+
+abbrev μ-loop : tie.MeasureT-loop
+μ-loop bytes at kinds first₀ last₀ i₀ kind₀ first last i kind = kinds - kind
+
+loop-holds : tie.Need-loop-holds Inv-loop μ-loop
+loop-holds c = windows-none _ _ _ _ _
+
+slice-write-first : tie.Need-slice-write-first Inv-loop μ-loop
+slice-write-first c = omega (arith, c .before .before .before .before .before .loop .inv .long-first)
+
+slice-write-last : tie.Need-slice-write-last Inv-loop μ-loop
+slice-write-last c = omega (arith, c .before .before .before .before .before .loop .inv .long-last)
+
+same-length : tie.Need-same-length Inv-loop μ-loop
+same-length c = c .before .before .before .before .before .loop .inv .long-first
+
+same-length-2 : tie.Need-same-length-2 Inv-loop μ-loop
+same-length-2 c = c .before .before .before .before .before .loop .inv .long-last
+
+returns : tie.Need-returns Inv-loop μ-loop
+returns c =
+    let closed = as-closed _ _ (sym (c .before .before .before .read-window .ensures) ∙ c .before .why .given .1) in
+    let loop = c .before .before .before .before .before .loop .inv .loop in (
+      loop-stop _ _ _ _ _ _ _ _ _ loop _ (c .before .before .before .before .loop-test .taken) closed,
+      λ windows n f. absurd (loop-stopped _ _ _ _ _ _ _ _ _ loop _ (c .before .before .before .before .loop-test .taken) closed windows n f),
+    )
+
+loop-less : tie.Need-loop-less Inv-loop μ-loop
+loop-less c = omega arith
+
+loop-again : tie.Need-loop-again Inv-loop μ-loop
+loop-again c = windows-more _ _ _ _ _ _ _ _ _ (c .before .before .before .before .before .loop .inv) _ _ _ (c .before .before .before .before .loop-test .taken) (as-window _ _ _ _ (sym (c .before .before .before .read-window .ensures) ∙ c .before .from .given .1))
+
+same-length-3 : tie.Need-same-length-3 Inv-loop μ-loop
+same-length-3 c = c .before .loop .inv .long-first
+
+same-length-4 : tie.Need-same-length-4 Inv-loop μ-loop
+same-length-4 c = c .before .loop .inv .long-last
+
+returns-2 : tie.Need-returns-2 Inv-loop μ-loop
+returns-2 c =
+    let loop = c .before .loop .inv .loop in (
+      loop-done _ _ _ _ _ _ _ _ _ loop (omega arith),
+      λ windows n f.
+          let e = loop-stored _ _ _ _ _ _ _ _ _ loop (omega arith) (λ st. refl) windows n f in
+          (ap (λ (st : List ℕ × List ℕ). st .0) e, ap (λ (st : List ℕ × List ℕ). st .1) e),
+    )
+
+pub read-windows-spec : {M : Type 1} → statement M
+read-windows-spec =
+    tie.close
+    (tie.spec
+    Inv-loop
+    μ-loop
+    loop-holds
+    (λ c κs. search needs)
+    (λ c. search needs)
+    (λ c. search needs)
+    slice-write-first
+    (λ c. search needs)
+    slice-write-last
+    (λ c. search needs)
+    same-length
+    same-length-2
+    returns
+    (λ c. search needs)
+    loop-less
+    loop-again
+    same-length-3
+    same-length-4
+    returns-2)
