@@ -13,11 +13,11 @@ use Rattle.queue.specs.Reading.{readQueue}
 use Rattle.queue_laws.proofs.Refusals.{queue-refusal, message-needed}
 use Rattle.plan.specs.Reading.{readPlan}
 use Rattle.plan.proofs.Refusals.{plan-refusal, plan-refusal-needed}
-use Rattle.planning.proofs.Answers.{reason-small}
+use Rattle.planning.proofs.Answers.{reason-range}
 
 verdict-fits : (v : Verdict) → ((r : Reason) → v ≡ Refused r → needed r ≡ 0) → verdictNumber v < 2 ^ 64
 verdict-fits Accepted h = omega arith
-verdict-fits (Refused r) h = omega (arith, h r refl, reason-small r)
+verdict-fits (Refused r) h = omega (arith, h r refl, reason-range r)
 
 pub queue-number : (s : List ℕ) → verdictNumber (readQueue s .verdict) < 2 ^ 64
 queue-number s = verdict-fits (readQueue s .verdict) (λ r e. message-needed r (queue-refusal s r e))

@@ -30,10 +30,10 @@ fn plan_queue(queue: Queue, table: &mut [u64], buffer: &mut [u8]) -> Answer
     ensures { λ r. ⌜ r ≡ answerOf (endingOf queue (length (now (table .entry))) (length (now (buffer .entry)))) ⌝ }
     ensures { λ _. ⌜ Leaves (endingOf queue (length (now (table .entry))) (length (now (buffer .entry)))) (now (table .entry)) (now (buffer .entry)) (now (table .exit)) (now (buffer .exit)) ⌝ }
 {
+    let needed = filling::needed_entries(queue);
     if buffer.len() < 77 {
         return Answer::Refused(Reason::Buffer);
     }
-    let needed = filling::needed_entries(queue);
     if (table.len() as u64) < needed {
         return Answer::Refused(Reason::Table(needed));
     }
@@ -58,10 +58,10 @@ pub fn plan(message: &[u8], table: &mut [u64], buffer: &mut [u8]) -> Answer
 fn one_more(count: u32) -> u32
     ensures { λ r. ⌜ r ≡ raised count ⌝ }
 {
-    if count < 4294967295 {
-        return count + 1;
+    if 4294967294 < count {
+        return count;
     }
-    count
+    count + 1
 }
 
 // The tally after an answer.

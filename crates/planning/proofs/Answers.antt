@@ -1,4 +1,4 @@
--- Which refusal planning gives exactly when, and that an answer fits 64 bits.
+-- An answer fits 64 bits.
 -- Assumes nothing.
 use Prim.Native.Nat.{ℕ, _^_, _≤_, _<_}
 use mathlib.Core.Bool.{Bool, true, false, cond}
@@ -28,25 +28,25 @@ use Rattle.planning.specs.Planning.{refused, solved, endingOf, ifAccepte
 use Rattle.planning.proofs.Plans.{valid-plan}
 
 -- refusals are numbered 1 to 18
-pub reason-small : (r : Reason) → reasonNumber r ≤ 18
-reason-small Opening = omega arith
-reason-small Ends = omega arith
-reason-small Malformed = omega arith
-reason-small Edition = omega arith
-reason-small Kinds = omega arith
-reason-small Goal = omega arith
-reason-small Shift = omega arith
-reason-small Start = omega arith
-reason-small Gap = omega arith
-reason-small Weight = omega arith
-reason-small Window = omega arith
-reason-small Jobs = omega arith
-reason-small Kind = omega arith
-reason-small Trailing = omega arith
-reason-small Buffer = omega arith
-reason-small (Table n) = omega arith
-reason-small Order = omega arith
-reason-small Job = omega arith
+pub reason-range : (r : Reason) → (1 ≤ reasonNumber r) × (reasonNumber r ≤ 18)
+reason-range Opening = (omega arith, omega arith)
+reason-range Ends = (omega arith, omega arith)
+reason-range Malformed = (omega arith, omega arith)
+reason-range Edition = (omega arith, omega arith)
+reason-range Kinds = (omega arith, omega arith)
+reason-range Goal = (omega arith, omega arith)
+reason-range Shift = (omega arith, omega arith)
+reason-range Start = (omega arith, omega arith)
+reason-range Gap = (omega arith, omega arith)
+reason-range Weight = (omega arith, omega arith)
+reason-range Window = (omega arith, omega arith)
+reason-range Jobs = (omega arith, omega arith)
+reason-range Kind = (omega arith, omega arith)
+reason-range Trailing = (omega arith, omega arith)
+reason-range Buffer = (omega arith, omega arith)
+reason-range (Table n) = (omega arith, omega arith)
+reason-range Order = (omega arith, omega arith)
+reason-range Job = (omega arith, omega arith)
 
 -- ---- an answer fits 64 bits
 
@@ -69,4 +69,4 @@ answer-fits s y n room = go (readQueue s .verdict) refl
   where
     go : (v : Verdict) → readQueue s .verdict ≡ v → answerNumber (answerOf (ifAccepted v (endingOf (readQueue s .queue) n room))) < 2 ^ 64
     go Accepted e = queue-fits (readQueue s .queue) (accepted-valid s y e) n room
-    go (NotAccepted r) e = omega (arith, message-needed r (queue-refusal s r e), reason-small r)
+    go (NotAccepted r) e = omega (arith, message-needed r (queue-refusal s r e), reason-range r)

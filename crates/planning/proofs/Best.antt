@@ -79,7 +79,7 @@ module _ (q : Queue) (v : Valid q) (table buffer table′ buffer′ : List ℕ) 
       }
 
 -- an accepted message with room for its table and plan is planned by the recursion
-reached : (read : Reading) (n room : ℕ) → read .verdict ≡ Accepted → entries (problem (read .queue)) ≤ n → 77 ≤ room
+pub reached : (read : Reading) (n room : ℕ) → read .verdict ≡ Accepted → entries (problem (read .queue)) ≤ n → 77 ≤ room
     → ending read n room ≡ solved (read .queue) (planCost (problem (read .queue)))
 unfolding ending endingOf
 reached read n room a h k = rw (a, le-ltb room 77 k, le-ltb n (entries (problem (read .queue))) h)

@@ -2,3 +2,4 @@ pub mod Orders
 pub mod Plans
 pub mod Best
 pub mod Answers
+pub mod Refusals

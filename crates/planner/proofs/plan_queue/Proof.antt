@@ -9,10 +9,10 @@ returns : tie.Need-returns
 returns c = ends-refused _ _ _ _ (short-buffer _ _ _ (c .if1 .taken))
 
 returns-2 : tie.Need-returns-2
-returns-2 c = ends-refused _ _ _ _ (short-table _ _ _ (c .before .before .if1 .left) _ (c .before .needed-entries .ensures) (c .if2 .taken))
+returns-2 c = ends-refused _ _ _ _ (short-table _ _ _ (c .before .if1 .left) _ (c .before .before .needed-entries .ensures) (c .if2 .taken))
 
 returns-3 : tie.Need-returns-3
-returns-3 c = ends-as (in-room _ _ _ (c .before .before .before .before .before .before .before .before .before .if1 .left) _ (c .before .before .before .before .before .before .before .before .needed-entries .ensures) (c .before .before .before .before .before .before .before .if2 .left)) (c .before .before .before .before .make-plan .ensures)
+returns-3 c = ends-as (in-room _ _ _ (c .before .before .before .before .before .before .before .before .if1 .left) _ (c .before .before .before .before .before .before .before .before .before .needed-entries .ensures) (c .before .before .before .before .before .before .before .if2 .left)) (c .before .before .before .before .make-plan .ensures)
 
 pub plan-queue-spec : {M : Type 1} → statement M
 plan-queue-spec =
