@@ -18,8 +18,8 @@ pub plan-queue-spec : {M : Type 1} → statement M
 plan-queue-spec =
     tie.close
     (tie.spec
-    returns
     (λ c κs. search needs)
+    returns
     returns-2
     (λ c κs. search needs)
     (λ c. search needs)
