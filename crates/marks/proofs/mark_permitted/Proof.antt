@@ -1,11 +1,11 @@
--- `table::mark_permitted` meets its contract: `Marking` is the invariant; the kinds left fall.
+-- `marks::mark_permitted` meets its contract: `Marking` is the invariant; the kinds left fall.
 -- Assumes nothing.
 use Prim.Native.Nat.{_-_}
 use native.Mathlib.Omega.{arith}
-use Rattle.table.proofs.Marks.{Marking, marking-none, marking-more, marking-done}
+use Rattle.marks.proofs.Marks.{Marking, marking-none, marking-more, marking-done}
 use borrow.Author.Needs.{needs}
-use Rattle.table.proofs.mark_permitted.Statement.{statement}
-use Rattle.table.proofs.mark_permitted.Tie as tie
+use Rattle.marks.proofs.mark_permitted.Statement.{statement}
+use Rattle.marks.proofs.mark_permitted.Tie as tie
 
 abbrev Inv-loop : tie.InvT-loop
 Inv-loop left counts jobs first last place max-shift kinds marks₀ kind₀ marks kind = Marking left counts jobs first last place max-shift marks₀ marks kinds kind

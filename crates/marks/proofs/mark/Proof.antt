@@ -1,9 +1,9 @@
--- `table::mark` meets its contract: each return has the tests that lead to it.
+-- `marks::mark` meets its contract: each return has the tests that lead to it.
 -- Assumes nothing.
 use borrow.Author.Tests.{lt-ltb, le-ltb, le-leb, lt-leb}
 use borrow.Author.Needs.{needs}
-use Rattle.table.proofs.mark.Statement.{statement}
-use Rattle.table.proofs.mark.Tie as tie
+use Rattle.marks.proofs.mark.Statement.{statement}
+use Rattle.marks.proofs.mark.Tie as tie
 
 returns : tie.Need-returns
 returns c = rw (le-ltb _ _ (c .if1 .taken))

@@ -1,10 +1,10 @@
--- `table::counted` meets its contract.
+-- `stages::counted` meets its contract.
 -- Assumes nothing.
 use native.Mathlib.Omega.{arith}
 use borrow.Author.Tests.{ne-eqb}
 use borrow.Author.Needs.{needs}
-use Rattle.table.proofs.counted.Statement.{statement}
-use Rattle.table.proofs.counted.Tie as tie
+use Rattle.stages.proofs.counted.Statement.{statement}
+use Rattle.stages.proofs.counted.Tie as tie
 
 returns : tie.Need-returns
 returns c = rw (c .if1 .taken) (omega arith)

@@ -1,12 +1,12 @@
--- `table::fill_states` meets its contract: `FillingStates` is the invariant; the kinds left fall.
+-- `stages::fill_states` meets its contract: `FillingStates` is the invariant; the kinds left fall.
 -- Assumes nothing.
 use Prim.Native.Nat.{_+_, _-_, _*_, _<_}
 use native.Mathlib.Omega.{arith}
 use lib.ListN.{length}
-use Rattle.table.proofs.Filling.{FillingStates, filling-none, ready-still, filling-in, filling-more, filling-done}
+use Rattle.stages.proofs.Filling.{FillingStates, filling-none, ready-still, filling-in, filling-more, filling-done}
 use borrow.Author.Needs.{needs}
-use Rattle.table.proofs.fill_states.Statement.{statement}
-use Rattle.table.proofs.fill_states.Tie as tie
+use Rattle.stages.proofs.fill_states.Statement.{statement}
+use Rattle.stages.proofs.fill_states.Tie as tie
 
 abbrev Inv-loop : tie.InvT-loop
 Inv-loop table₀ left marks gaps strides stage kinds block index feasible₀ kind₀ table feasible kind =

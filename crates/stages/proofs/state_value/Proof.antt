@@ -1,9 +1,9 @@
--- `table::state_value` meets its contract: each return is one case of `filling`.
+-- `stages::state_value` meets its contract: each return is one case of `filling`.
 -- Assumes nothing.
 use borrow.Author.Tests.{eq-eqb, ne-eqb}
 use borrow.Author.Needs.{needs}
-use Rattle.table.proofs.state_value.Statement.{statement}
-use Rattle.table.proofs.state_value.Tie as tie
+use Rattle.stages.proofs.state_value.Statement.{statement}
+use Rattle.stages.proofs.state_value.Tie as tie
 
 returns : tie.Need-returns
 returns c = rw (ne-eqb _ _ (c .if1 .taken))
