@@ -1,14 +1,14 @@
--- `fields::read_run` meets its contract: `Running` is the invariant; the numbers left to read fall.
+-- `fields_reader::read_run` meets its contract: `Running` is the invariant; the numbers left to read fall.
 -- Assumes nothing.
 use Prim.Native.Nat.{_-_}
 use mathlib.Core.Path.{sym, _∙_}
 use native.Mathlib.Omega.{arith}
 use Rattle.fields.specs.Fields.{field, within}
 use Rattle.fields.proofs.Judged.{as-value, as-refused}
 use Rattle.fields.proofs.Runs.{Running, run-none, run-more, run-stop, run-done}
 use borrow.Author.Needs.{needs}
-use Rattle.fields.proofs.read_run.Statement.{statement}
-use Rattle.fields.proofs.read_run.Tie as tie
+use Rattle.fields_reader.proofs.read_run.Statement.{statement}
+use Rattle.fields_reader.proofs.read_run.Tie as tie
 
 abbrev Inv-loop : tie.InvT-loop
 Inv-loop bytes at count low high why out₀ from i₀ k₀ out i k = Running (field 3 (within low high) why) bytes count at out₀ from out i k

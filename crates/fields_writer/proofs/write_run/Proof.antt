@@ -1,11 +1,11 @@
--- `fields::write_run` meets its contract: `WritingAll` is the invariant; the values left to write fall.
+-- `fields_writer::write_run` meets its contract: `WritingAll` is the invariant; the values left to write fall.
 -- Assumes nothing.
 use Prim.Native.Nat.{_-_}
 use native.Mathlib.Omega.{arith}
 use Rattle.fields.proofs.Parts.{WritingAll, writing-none, writing-more, writing-room, writing-done}
 use borrow.Author.Needs.{needs}
-use Rattle.fields.proofs.write_run.Statement.{statement}
-use Rattle.fields.proofs.write_run.Tie as tie
+use Rattle.fields_writer.proofs.write_run.Statement.{statement}
+use Rattle.fields_writer.proofs.write_run.Tie as tie
 
 abbrev Inv-loop : tie.InvT-loop
 Inv-loop buffer₀ at values from count i₀ k₀ buffer i k = WritingAll buffer₀ at values from count buffer i k

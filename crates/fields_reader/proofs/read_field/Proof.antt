@@ -1,12 +1,12 @@
--- `fields::read_field` meets its contract: what was read, judged.
+-- `fields_reader::read_field` meets its contract: what was read, judged.
 -- Assumes nothing.
 use mathlib.Core.Path.{sym, _∙_}
 use Rattle.number.specs.Numbers.{number}
 use Rattle.number.proofs.Steps.{as-value, as-refused}
 use Rattle.fields.proofs.Judged.{low-out, high-out, true-within}
 use borrow.Author.Needs.{needs}
-use Rattle.fields.proofs.read_field.Statement.{statement}
-use Rattle.fields.proofs.read_field.Tie as tie
+use Rattle.fields_reader.proofs.read_field.Statement.{statement}
+use Rattle.fields_reader.proofs.read_field.Tie as tie
 
 returns : tie.Need-returns
 returns c =

@@ -1,13 +1,13 @@
--- `fields::all_within` meets its contract: `Testing` is the invariant; the values left to test fall.
+-- `queue_writer::all_within` meets its contract: `Testing` is the invariant; the values left to test fall.
 -- Assumes nothing.
 use Prim.Native.Nat.{_-_}
 use native.Mathlib.Omega.{arith}
 use Rattle.fields.specs.Fields.{within}
 use Rattle.fields.proofs.Judged.{low-out, high-out, true-within}
 use Rattle.fields.proofs.Parts.{Testing, test-none, test-more, test-out, test-done}
 use borrow.Author.Needs.{needs}
-use Rattle.fields.proofs.all_within.Statement.{statement}
-use Rattle.fields.proofs.all_within.Tie as tie
+use Rattle.queue_writer.proofs.all_within.Statement.{statement}
+use Rattle.queue_writer.proofs.all_within.Tie as tie
 
 abbrev Inv-loop : tie.InvT-loop
 Inv-loop values from count low high k₀ k = Testing (within low high) values from count k
