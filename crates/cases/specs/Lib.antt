@@ -1,1 +1,2 @@
+pub mod Planning
 pub mod Cases

@@ -75,12 +75,12 @@ module _ (q : Queue) where
     pub past : (n : ℕ) → entries (problem q) ≤ n → getD table n 0 ≡ getD table₀ n 0
     pub counted : feasible ≡ sumBelow countAt i
 
-sum-most : (f : ℕ → ℕ) (m n : ℕ) → ((l : ℕ) → l < n → f l ≤ m) → sumBelow f n ≤ n * m
+pub sum-most : (f : ℕ → ℕ) (m n : ℕ) → ((l : ℕ) → l < n → f l ≤ m) → sumBelow f n ≤ n * m
 unfolding sumBelow
 sum-most f m zero h = omega arith
 sum-most f m (suc n) h = rw (suc-mul n m) (omega (arith, sum-most f m n (λ l u. h l (omega arith)), h n (omega arith)))
 
-found-most : (r : Option ℕ) → found r ≤ 1
+pub found-most : (r : Option ℕ) → found r ≤ 1
 found-most none = omega arith
 found-most (some c) = omega arith
 

@@ -62,5 +62,9 @@ module _ (q : Queue) (v : Valid q) where
   pub block-fits : block (problem q) < 2 ^ 64
   block-fits = omega (arith, block-most)
 
+  -- a count of entries fits six groups of seven bits, and so 64 bits
+  pub entries-small : entries (problem q) < 2 ^ 42
+  entries-small = omega (arith, mul-le-mul {n₁ = q .kinds} {m₁ = block (problem q)} {n₂ = 5} {m₂ = 61 ^ 5} (v .kinds .1) block-most)
+
   pub entries-fit : entries (problem q) < 2 ^ 64
-  entries-fit = omega (arith, mul-le-mul {n₁ = q .kinds} {m₁ = block (problem q)} {n₂ = 5} {m₂ = 61 ^ 5} (v .kinds .1) block-most)
+  entries-fit = omega (arith, entries-small)

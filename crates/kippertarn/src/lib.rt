@@ -1,20 +1,54 @@
 // The C entries. Each answers R + 256 * V: R is 0 or the refusal, V the bytes of the written plan, the needed entries for 16, else 0.
+use refusal::Answer;
+use refusal::Reason;
 use refusal::Verdict;
 ghost use mathlib.Core.Path.{_≡_};
-ghost use Rattle.refusal.specs.declared.Reason.{Reason};
+ghost use Prim.Native.Nat.{_^_, _<_};
+ghost use lib.ListN.{length};
 ghost use Rattle.refusal.specs.Reasons.{needed};
-ghost use Rattle.refusal.specs.Answers.{verdictNumber};
+ghost use Rattle.refusal.specs.Answers.{refusalNumber, verdictNumber, answerNumber};
 ghost use Rattle.queue.specs.Reading.{readQueue};
 ghost use Rattle.plan.specs.Reading.{readPlan};
+ghost use Rattle.planning.specs.Planning.{ending, answerOf, Leaves};
+ghost use Rattle.planning.specs.BestOrder.{BestOrder};
 
-// R of a verdict whose refusal carries nothing, so that V is 0.
+// The entries that the reason for 16 holds, else 0.
+fn needed_entries(reason: Reason) -> u64
+    ensures { λ r. ⌜ r ≡ needed reason ⌝ }
+{
+    match reason {
+        Reason::Table(entries) => entries,
+        _ => 0,
+    }
+}
+
+// R + 256 * V of a refusal.
+fn refusal_number(reason: Reason) -> u64
+    requires { ⌜ refusalNumber reason < 2 ^ 64 ⌝ }
+    ensures { λ r. ⌜ r ≡ refusalNumber reason ⌝ }
+{
+    refusal::reason_number(reason) + 256 * needed_entries(reason)
+}
+
+// R of a verdict; V is 0.
 fn verdict_number(verdict: Verdict) -> u64
-    requires { ⌜ ((r : Reason) → verdict ≡ Verdict.Refused r → needed r ≡ 0) ⌝ }
+    requires { ⌜ verdictNumber verdict < 2 ^ 64 ⌝ }
     ensures { λ r. ⌜ r ≡ verdictNumber verdict ⌝ }
 {
     match verdict {
         Verdict::Accepted => 0,
-        Verdict::Refused(reason) => refusal::reason_number(reason),
+        Verdict::Refused(reason) => refusal_number(reason),
+    }
+}
+
+// R + 256 * V of an answer.
+fn answer_number(answer: Answer) -> u64
+    requires { ⌜ answerNumber answer < 2 ^ 64 ⌝ }
+    ensures { λ r. ⌜ r ≡ answerNumber answer ⌝ }
+{
+    match answer {
+        Answer::Planned(bytes) => 256 * bytes as u64,
+        Answer::Refused(reason) => refusal_number(reason),
     }
 }
 
@@ -36,4 +70,15 @@ pub extern "C" fn kippertarn_check_plan(message: &[u8]) -> u64
     let reading = plan_reader::read_plan(message);
     let verdict = reading.verdict;
     verdict_number(verdict)
+}
+
+// Plans a queue message: V is the bytes of the written plan, and for 16 the needed entries.
+#[no_mangle]
+pub extern "C" fn kippertarn_plan(message: &[u8], table: &mut [u64], plan: &mut [u8]) -> u64
+    ensures { λ r. ⌜ r ≡ answerNumber (answerOf (ending (readQueue (now (message .entry))) (length (now (table .entry))) (length (now (plan .entry))))) ⌝ }
+    ensures { λ _. ⌜ Leaves (ending (readQueue (now (message .entry))) (length (now (table .entry))) (length (now (plan .entry)))) (now (table .entry)) (now (plan .entry)) (now (table .exit)) (now (plan .exit)) ⌝ }
+    ensures { λ r. ⌜ BestOrder (now (message .entry)) (now (table .entry)) (now (plan .entry)) (now (table .exit)) (now (plan .exit)) r ⌝ }
+{
+    let answer = planner::plan(message, table, plan);
+    answer_number(answer)
 }

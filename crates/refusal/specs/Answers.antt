@@ -5,6 +5,8 @@ use Rattle.refusal.specs.declared.Verdict.{Verdict}
 use Rattle.refusal.specs.declared.Verdict.the-variants.{Accepted, Refused}
 use Rattle.refusal.specs.declared.Written.{Written}
 use Rattle.refusal.specs.declared.Written.the-variants.{Bytes, Refused as NotWritten}
+use Rattle.refusal.specs.declared.Answer.{Answer}
+use Rattle.refusal.specs.declared.Answer.the-variants.{Planned, Refused as NotPlanned}
 use Rattle.refusal.specs.Reasons.{reasonNumber, needed}
 
 -- R is the refusal, V the needed entries for 16, else 0
@@ -20,3 +22,8 @@ verdictNumber (Refused r) = refusalNumber r
 abbrev pub writtenNumber : Written → ℕ
 writtenNumber (Bytes n) = 256 * n
 writtenNumber (NotWritten r) = refusalNumber r
+
+-- planning: V is the number of the plan's bytes
+abbrev pub answerNumber : Answer → ℕ
+answerNumber (Planned n) = 256 * n
+answerNumber (NotPlanned r) = refusalNumber r

@@ -65,6 +65,13 @@ pub enum Written {
     Refused(Reason),
 }
 
+// How planning ends.
+pub enum Answer {
+    // The number of the plan's bytes.
+    Planned(usize),
+    Refused(Reason),
+}
+
 // 01's number of a refusal.
 pub fn reason_number(reason: Reason) -> u64
     ensures { λ r. ⌜ r ≡ reasonNumber reason ⌝ }

@@ -1,16 +1,14 @@
--- `kippertarn::verdict_number` meets its contract: a refusal that carries nothing answers its number alone.
+-- `kippertarn::verdict_number` meets its contract, case by case.
 -- Assumes nothing.
-use mathlib.Core.Path.{sym, ap, _∙_}
-use native.Mathlib.Omega.{arith}
-use Rattle.refusal.specs.Answers.{verdictNumber}
 use borrow.Author.Needs.{needs}
 use Rattle.kippertarn.proofs.verdict_number.Statement.{statement}
 use Rattle.kippertarn.proofs.verdict_number.Tie as tie
 
+refusal-number-requires : tie.Need-refusal-number-requires
+refusal-number-requires c κs = rw (c .before .verdict .given .1) at (c .before .before .before .pre)
+
 returns-2 : tie.Need-returns-2
-returns-2 c =
-    let e = c .before .before .verdict .given .1 in
-    c .reason-number .ensures ∙ sym (ap verdictNumber e ∙ omega (arith, c .before .before .before .before .pre (c .before .before .verdict .given .0 .0) e))
+returns-2 c = rw (c .before .before .verdict .given .1) (c .refusal-number .ensures)
 
 pub verdict-number-spec : {M : Type 1} → statement M
 verdict-number-spec =
@@ -18,6 +16,6 @@ verdict-number-spec =
     (tie.spec
     (λ c. search needs)
     (λ c. search needs)
-    (λ c κs. search needs)
+    refusal-number-requires
     (λ c. search needs)
     returns-2)

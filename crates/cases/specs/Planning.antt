@@ -1,0 +1,86 @@
+-- 01's small queues A to H as calls of planning on bytes: the answer, and the bytes of the plan.
+use Prim.Native.Nat.{ℕ, _*_}
+use mathlib.Core.List.{List, [], _∷_, _++_, flatMap}
+use mathlib.Core.Path.{_≡_, refl}
+use lib.ListN.{take, drop, replicate}
+use Rattle.refusal.specs.declared.Reason.the-variants.{Buffer, Table, Order}
+use Rattle.refusal.specs.declared.Answer.{Answer}
+use Rattle.refusal.specs.declared.Answer.the-variants.{Refused}
+use Rattle.refusal.specs.Answers.{answerNumber}
+use Rattle.number.specs.Readers.{times}
+use Rattle.number.specs.Numbers.{groupsAt, groups, encode}
+use Rattle.fields.specs.Lists.{tabulate}
+use Rattle.fields.specs.Messages.{opens}
+use Rattle.queue.specs.Reading.{placed, settings, tables, head, jobs, queue, readQueue}
+use Rattle.plan.specs.Writing.{message}
+use Rattle.sequencing.specs.Lists.{from, sum, weigh, filter, sumBelow}
+use Rattle.sequencing.specs.States.{jobsOf, all, byHandIn}
+use Rattle.sequencing.specs.Least.{least, argLeast}
+use Rattle.sequencing.specs.Recursion.{W, toGo, value, choice, walk, planCost, planKinds, planOrder}
+use Rattle.sequencing.specs.Entries.{size, digits, entryKind, entryLeft}
+use Rattle.sequencing.specs.Counts.{feasibleStates}
+use Rattle.problem.specs.Problem.{allowed}
+use Rattle.planning.specs.Planning.{endingOf, ending, bestPlan, answerOf, bufferOf}
+
+-- A, but for its goal, shift, a_1 and a_2
+abbrev likeA : (goal shift a₁ a₂ : ℕ) → List ℕ
+likeA goal m a₁ a₂ =
+    0x51 ∷ 0x53 ∷ 0x01 ∷ 0x02 ∷ goal ∷ m ∷ 0x00 ∷ 0x0A ∷ 0x0A ∷ 0x14 ∷ 0x32 ∷ 0x28 ∷ 0x1E ∷ 0x03 ∷ 0x01 ∷ a₁ ∷ 0x3C ∷ a₂ ∷ 0x3C ∷ 0x03 ∷ 0x01 ∷ 0x02 ∷ 0x01 ∷ []
+
+abbrev A : List ℕ
+A = likeA 1 1 1 1
+
+-- T 0
+abbrev G : List ℕ
+G = take 19 A ++ (0x00 ∷ [])
+
+-- kinds 2 1, all gaps 0, m 1
+abbrev H : List ℕ
+H = take 7 A ++ replicate 6 0 ++ drop 13 (take 19 A) ++ (0x02 ∷ 0x02 ∷ 0x01 ∷ [])
+
+-- the answer to a message, with a table of n entries and a buffer of so many bytes
+abbrev answered : List ℕ → (entries room : ℕ) → Answer
+answered message n room = answerOf (ending (readQueue message) n room)
+
+-- R + 256 × V, and the first bytes of a buffer of 77 zeros then
+abbrev planned : List ℕ → (entries bytes : ℕ) → ℕ × List ℕ
+planned message n bytes = (answerNumber (answered message n 77), take bytes (bufferOf (ending (readQueue message) n 77) (replicate 77 0)))
+
+pub record Planning : Type 0 where
+  -- A: cost 70, kept 7, order 2 1 3; 12 entries are needed, and 77 bytes
+  pub A-plan : planned A 12 10 ≡ (256 * 10, 0x51 ∷ 0x50 ∷ 0x01 ∷ 0x01 ∷ 0x46 ∷ 0x07 ∷ 0x03 ∷ 0x02 ∷ 0x01 ∷ 0x03 ∷ [])
+  pub A-eleven : answered A 11 77 ≡ Refused (Table 12)
+  pub A-short : answered A 11 76 ≡ Refused Buffer
+  -- B: cost 200, order 1 3 2
+  pub B-plan : planned (likeA 2 1 1 1) 12 11 ≡ (256 * 11, 0x51 ∷ 0x50 ∷ 0x01 ∷ 0x02 ∷ 0xC8 ∷ 0x01 ∷ 0x07 ∷ 0x03 ∷ 0x01 ∷ 0x03 ∷ 0x02 ∷ [])
+  -- C: cost 80, order 1 3 2
+  pub C-plan : planned (likeA 1 1 1 3) 12 10 ≡ (256 * 10, 0x51 ∷ 0x50 ∷ 0x01 ∷ 0x01 ∷ 0x50 ∷ 0x05 ∷ 0x03 ∷ 0x01 ∷ 0x03 ∷ 0x02 ∷ [])
+  -- D: order 2 1 3
+  pub D-plan : planned (likeA 1 1 2 1) 12 10 ≡ (256 * 10, 0x51 ∷ 0x50 ∷ 0x01 ∷ 0x01 ∷ 0x46 ∷ 0x06 ∷ 0x03 ∷ 0x02 ∷ 0x01 ∷ 0x03 ∷ [])
+  -- E: 17
+  pub E-none : answered (likeA 1 1 3 1) 12 77 ≡ Refused Order
+  -- F: cost 100, kept 3, order 1 2 3; with a_2 = 3 too, 17
+  pub F-plan : planned (likeA 1 0 1 1) 12 10 ≡ (256 * 10, 0x51 ∷ 0x50 ∷ 0x01 ∷ 0x01 ∷ 0x64 ∷ 0x03 ∷ 0x03 ∷ 0x01 ∷ 0x02 ∷ 0x03 ∷ [])
+  pub F-none : answered (likeA 1 0 1 3) 12 77 ≡ Refused Order
+  -- G: cost 0, kept 0, N entries
+  pub G-plan : planned G 2 7 ≡ (256 * 7, 0x51 ∷ 0x50 ∷ 0x01 ∷ 0x01 ∷ 0x00 ∷ 0x00 ∷ 0x00 ∷ [])
+  pub G-one : answered G 1 77 ≡ Refused (Table 2)
+  -- H: order 2 1
+  pub H-plan : planned H 8 9 ≡ (256 * 9, 0x51 ∷ 0x50 ∷ 0x01 ∷ 0x01 ∷ 0x00 ∷ 0x04 ∷ 0x02 ∷ 0x02 ∷ 0x01 ∷ [])
+
+pub planning : Planning
+unfolding readQueue queue head settings tables jobs placed opens groupsAt groups encode tabulate flatMap message ending endingOf bestPlan planCost planKinds planOrder feasibleStates value toGo choice walk byHandIn least argLeast W all jobsOf sum weigh filter from sumBelow size digits entryKind entryLeft allowed times
+planning = record {
+  A-plan = refl;
+  A-eleven = refl;
+  A-short = refl;
+  B-plan = refl;
+  C-plan = refl;
+  D-plan = refl;
+  E-none = refl;
+  F-plan = refl;
+  F-none = refl;
+  G-plan = refl;
+  G-one = refl;
+  H-plan = refl;
+}

@@ -1,0 +1,5 @@
+pub mod Orders
+pub mod Plans
+pub mod Best
+pub mod Answers
+pub mod Refusals
