@@ -12,7 +12,7 @@ use Rattle.refusal.specs.declared.Reason.{Reason}
 use Rattle.number.specs.Readers.{found, Reader, andThen, times}
 use Rattle.number.specs.Numbers.{number, encode}
 use Rattle.number.proofs.Steps.{went-on, found-value, found-next}
-use Rattle.number.proofs.RoundTrip.{number-written, number-read}
+use Rattle.fields.proofs.RoundTrip.{number-written, number-read}
 use Rattle.fields.specs.Fields.{field, within}
 use Rattle.fields.proofs.Judged.{field-found, found-field, within-true, true-within}
 

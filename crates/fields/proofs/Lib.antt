@@ -1,3 +1,4 @@
+pub mod RoundTrip
 pub mod Judged
 pub mod Runs
 pub mod Parts

@@ -99,7 +99,7 @@ fn fill_index(
     let weight = stage_weight(shape.goal, left, weights, kinds);
     let place = shape.jobs - remaining;
     let mut marks = [0u32; 5];
-    table::mark_permitted(
+    marks::mark_permitted(
         left,
         counts,
         jobs,
@@ -110,7 +110,7 @@ fn fill_index(
         kinds,
         &mut marks,
     );
-    table::fill_states(
+    stages::fill_states(
         table,
         left,
         &marks,

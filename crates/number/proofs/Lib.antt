@@ -2,5 +2,4 @@ pub mod Bits
 pub mod Steps
 pub mod Reading
 pub mod Encoding
-pub mod RoundTrip
 pub mod Writing

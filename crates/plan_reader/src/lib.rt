@@ -38,7 +38,7 @@ enum FrontRead {
 fn read_job(bytes: &[u8], at: usize, order: &[u32], places: usize, jobs: u32) -> Field
     ensures { λ r. ⌜ r ≡ asField (field 3 (fresh jobs (take places (now (order .entry)))) Job (now (bytes .entry)) at) ⌝ }
 {
-    match fields::read_field(bytes, at, 1, jobs, Reason::Job) {
+    match fields_reader::read_field(bytes, at, 1, jobs, Reason::Job) {
         Field::Value { value, next } => {
             if plan_jobs::stands_in(order, places, value) {
                 return Field::Refused(Reason::Job);
@@ -76,11 +76,11 @@ fn read_order(bytes: &[u8], at: usize, jobs: u32, out: &mut [u32]) -> Outcome
 fn read_start(bytes: &[u8]) -> Field
     ensures { λ r. ⌜ r ≡ asField (start (now (bytes .entry)) 0) ⌝ }
 {
-    if !fields::has_opening(bytes, b"QP") {
+    if !fields_reader::has_opening(bytes, b"QP") {
         return Field::Refused(Reason::Opening);
     }
-    match fields::read_field(bytes, 2, 1, 1, Reason::Edition) {
-        Field::Value { value: _, next } => fields::read_field(bytes, next, 1, 2, Reason::Goal),
+    match fields_reader::read_field(bytes, 2, 1, 1, Reason::Edition) {
+        Field::Value { value: _, next } => fields_reader::read_field(bytes, next, 1, 2, Reason::Goal),
         Field::Refused(why) => Field::Refused(why),
     }
 }
@@ -104,7 +104,7 @@ fn read_front(bytes: &[u8]) -> FrontRead
                 Read::Value {
                     value: feasible_states,
                     next: c,
-                } => match fields::read_field(bytes, c, 0, 60, Reason::Jobs) {
+                } => match fields_reader::read_field(bytes, c, 0, 60, Reason::Jobs) {
                     Field::Refused(why) => FrontRead::Refused(why),
                     Field::Value { value: jobs, next } => FrontRead::Value(Front {
                         goal,

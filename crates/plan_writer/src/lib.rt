@@ -65,7 +65,7 @@ fn write_front(buffer: &mut [u8], plan: Plan) -> usize
     ensures { λ r. ⌜ r ≡ length (frontBytes plan) ⌝ }
     ensures { λ _. ⌜ now (buffer .exit) ≡ sets (now (buffer .entry)) 0 (frontBytes plan) ⌝ }
 {
-    let a = fields::write_opening(buffer, b"QP");
+    let a = fields_writer::write_opening(buffer, b"QP");
     let b = number::write_number(buffer, a, 1);
     let c = number::write_number(buffer, b, plan.goal as u64);
     let d = number::write_number(buffer, c, plan.cost);
@@ -81,7 +81,7 @@ fn write_message(buffer: &mut [u8], plan: Plan) -> usize
 {
     let at = write_front(buffer, plan);
     let order = plan.order;
-    fields::write_run(buffer, at, &order, 0, plan.jobs as usize)
+    fields_writer::write_run(buffer, at, &order, 0, plan.jobs as usize)
 }
 
 // Writes the message of a valid record; a refused record, or one for a buffer under 77 bytes, changes nothing.

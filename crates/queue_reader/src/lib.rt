@@ -40,22 +40,22 @@ pub struct Head {
 fn read_settings(bytes: &[u8], at: usize) -> Front
     ensures { λ r. ⌜ r ≡ asFront (settings (now (bytes .entry)) at) ⌝ }
 {
-    match fields::read_field(bytes, at, 1, 5, Reason::Kinds) {
+    match fields_reader::read_field(bytes, at, 1, 5, Reason::Kinds) {
         Field::Refused(why) => Front::Refused(why),
         Field::Value {
             value: kinds,
             next: a,
-        } => match fields::read_field(bytes, a, 1, 2, Reason::Goal) {
+        } => match fields_reader::read_field(bytes, a, 1, 2, Reason::Goal) {
             Field::Refused(why) => Front::Refused(why),
             Field::Value {
                 value: goal,
                 next: b,
-            } => match fields::read_field(bytes, b, 0, 60, Reason::Shift) {
+            } => match fields_reader::read_field(bytes, b, 0, 60, Reason::Shift) {
                 Field::Refused(why) => Front::Refused(why),
                 Field::Value {
                     value: max_shift,
                     next: c,
-                } => match fields::read_field(bytes, c, 0, kinds, Reason::Start) {
+                } => match fields_reader::read_field(bytes, c, 0, kinds, Reason::Start) {
                     Field::Refused(why) => Front::Refused(why),
                     Field::Value {
                         value: start,
@@ -84,7 +84,7 @@ fn read_gaps(bytes: &[u8], at: usize, kinds: usize, gaps: &mut [u32]) -> Outcome
     let mut i = at;
     let mut row: usize = 0;
     while row <= kinds {
-        match fields::read_run(bytes, i, kinds, 0, 65535, Reason::Gap, gaps, 5 * row) {
+        match fields_reader::read_run(bytes, i, kinds, 0, 65535, Reason::Gap, gaps, 5 * row) {
             Outcome::Next(next) => {
                 i = next;
             }
@@ -198,7 +198,7 @@ fn read_tables(bytes: &[u8], at: usize, front: Settings) -> Head
     let mut last = [0u32; 5];
     match read_gaps(bytes, at, kinds, &mut gaps) {
         Outcome::Refused(why) => no_head(why),
-        Outcome::Next(a) => match fields::read_run(
+        Outcome::Next(a) => match fields_reader::read_run(
             bytes,
             a,
             kinds,
@@ -257,14 +257,14 @@ fn refused_reading(why: Reason) -> Reading
 fn read_jobs(bytes: &[u8], at: usize, queue: Queue) -> Reading
     ensures { λ r. ⌜ r ≡ asReading (closed (jobs queue) (now (bytes .entry)) at) ⌝ }
 {
-    match fields::read_field(bytes, at, 0, 60, Reason::Jobs) {
+    match fields_reader::read_field(bytes, at, 0, 60, Reason::Jobs) {
         Field::Refused(why) => refused_reading(why),
         Field::Value {
             value: jobs,
             next: a,
         } => {
             let mut job_kinds = [0u32; 60];
-            match fields::read_run(
+            match fields_reader::read_run(
                 bytes,
                 a,
                 jobs as usize,
@@ -296,8 +296,8 @@ fn read_jobs(bytes: &[u8], at: usize, queue: Queue) -> Reading
 pub fn read_queue(bytes: &[u8]) -> Reading
     ensures { λ r. ⌜ r ≡ readQueue (now (bytes .entry)) ⌝ }
 {
-    if fields::has_opening(bytes, b"QS") {
-        match fields::read_field(bytes, 2, 1, 1, Reason::Edition) {
+    if fields_reader::has_opening(bytes, b"QS") {
+        match fields_reader::read_field(bytes, 2, 1, 1, Reason::Edition) {
             Field::Refused(why) => refused_reading(why),
             Field::Value { value: _, next } => {
                 let front = read_head(bytes, next);

@@ -8,7 +8,7 @@ ghost use mathlib.Core.List.{flatMap};
 ghost use Prim.Native.Nat.{_+_, _≤_};
 ghost use lib.ListN.{length};
 ghost use lib.Seq.{sets};
-ghost use Rattle.fields.specs.Fields.{within, all, encodeAll};
+ghost use Rattle.fields.specs.Fields.{within, all, part, encodeAll};
 ghost use Rattle.queue.specs.Record.{windowOk};
 ghost use Rattle.queue_writer.specs.Arrays.{gapRows, windowPairs};
 ghost use Rattle.queue.specs.Writing.{encodeWindow, settingsBytes, headBytes, jobBytes, message, judgeSettings, judgeTables, judgeHead, judgeJobs, judge, writeQueue, writtenQueue};
@@ -23,6 +23,25 @@ fn is_within(value: u32, low: u32, high: u32) -> bool
     value <= high
 }
 
+// Whether `count` of the values, from `from` on, are all from `low` to `high`.
+fn all_within(values: &[u32], from: usize, count: usize, low: u32, high: u32) -> bool
+    requires { ⌜ from + count ≤ length (now values) ⌝ }
+    ensures { λ r. ⌜ r ≡ all (within low high) (part from count (now (values .entry))) ⌝ }
+{
+    let mut k: usize = 0;
+    while k < count {
+        let v = values[from + k];
+        if v < low {
+            return false;
+        }
+        if high < v {
+            return false;
+        }
+        k = k + 1;
+    }
+    true
+}
+
 // Whether the gaps of every row are small enough.
 fn judge_gaps(gaps: &[u32], kinds: usize) -> bool
     requires { ⌜ (kinds ≤ 5) × (30 ≤ length (now gaps)) ⌝ }
@@ -30,7 +49,7 @@ fn judge_gaps(gaps: &[u32], kinds: usize) -> bool
 {
     let mut row: usize = 0;
     while row <= kinds {
-        if !fields::all_within(gaps, 5 * row, kinds, 0, 65535) {
+        if !all_within(gaps, 5 * row, kinds, 0, 65535) {
             return false;
         }
         row = row + 1;
@@ -96,7 +115,7 @@ fn judge_tables(queue: Queue) -> Verdict
         return Verdict::Refused(Reason::Gap);
     }
     let weights = queue.weights;
-    if !fields::all_within(&weights, 0, kinds, 0, 1000) {
+    if !all_within(&weights, 0, kinds, 0, 1000) {
         return Verdict::Refused(Reason::Weight);
     }
     let first = queue.first_places;
@@ -126,7 +145,7 @@ fn judge_jobs(queue: Queue) -> Verdict
     }
     let jobs = queue.jobs as usize;
     let job_kinds = queue.job_kinds;
-    if !fields::all_within(&job_kinds, 0, jobs, 1, queue.kinds) {
+    if !all_within(&job_kinds, 0, jobs, 1, queue.kinds) {
         return Verdict::Refused(Reason::Kind);
     }
     Verdict::Accepted
@@ -165,7 +184,7 @@ fn write_gaps(buffer: &mut [u8], at: usize, gaps: &[u32], kinds: usize) -> usize
     let mut i = at;
     let mut row: usize = 0;
     while row <= kinds {
-        i = fields::write_run(buffer, i, gaps, 5 * row, kinds);
+        i = fields_writer::write_run(buffer, i, gaps, 5 * row, kinds);
         row = row + 1;
     }
     i
@@ -209,7 +228,7 @@ fn write_head(buffer: &mut [u8], at: usize, queue: Queue) -> usize
     let last = queue.last_places;
     let a = write_settings(buffer, at, queue);
     let b = write_gaps(buffer, a, &gaps, kinds);
-    let c = fields::write_run(buffer, b, &weights, 0, kinds);
+    let c = fields_writer::write_run(buffer, b, &weights, 0, kinds);
     write_windows(buffer, c, &first, &last, kinds)
 }
 
@@ -222,7 +241,7 @@ fn write_jobs(buffer: &mut [u8], at: usize, queue: Queue) -> usize
     let jobs = queue.jobs as usize;
     let job_kinds = queue.job_kinds;
     let a = number::write_number(buffer, at, jobs as u64);
-    fields::write_run(buffer, a, &job_kinds, 0, jobs)
+    fields_writer::write_run(buffer, a, &job_kinds, 0, jobs)
 }
 
 // The message of a record that was judged.
@@ -231,7 +250,7 @@ fn write_message(buffer: &mut [u8], queue: Queue) -> usize
     ensures { λ r. ⌜ r ≡ length (message queue) ⌝ }
     ensures { λ _. ⌜ now (buffer .exit) ≡ sets (now (buffer .entry)) 0 (message queue) ⌝ }
 {
-    let a = fields::write_opening(buffer, b"QS");
+    let a = fields_writer::write_opening(buffer, b"QS");
     let b = number::write_number(buffer, a, 1);
     let c = write_head(buffer, b, queue);
     write_jobs(buffer, c, queue)

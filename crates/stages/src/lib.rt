@@ -1,0 +1,73 @@
+// The entries of all states with one k, stored and counted.
+use table::Stage;
+ghost use mathlib.Core.Path.{_≡_};
+ghost use Prim.Native.Nat.{ℕ, _+_, _-_, _*_, _^_, _≤_, _<_};
+ghost use lib.Dec.{eqb};
+ghost use lib.ListN.{length, getD};
+ghost use Rattle.sequencing.specs.Lists.{at, sumBelow};
+ghost use Rattle.sequencing.specs.Counts.{found};
+ghost use Rattle.table.specs.Entries.{stored, loaded, filling, Ready};
+
+// The value of one state, NONE where it is not feasible.
+fn state_value(
+    table: &[u64],
+    left: &[u32],
+    mark: u32,
+    gaps: &[u32],
+    strides: &[usize],
+    kind: usize,
+    stage: Stage,
+) -> u64
+    requires { ⌜ Ready (now table) (now left) (now gaps) (now strides) kind (stage .kinds) (stage .block) (stage .index) (stage .weight) × (stage .goal ≡ 1 → stage .weight ≡ 1) ⌝ }
+    ensures { λ r. ⌜ r ≡ stored (filling (now (table .entry)) (now (left .entry)) (now (gaps .entry)) (now (strides .entry)) (stage .kinds) (stage .block) (stage .index) (stage .weight) (stage .remaining) (eqb mark 1) kind) ⌝ }
+{
+    if mark != 1 {
+        return table::NONE;
+    }
+    if stage.remaining == 0 {
+        return 0;
+    }
+    let best = table::least_from(table, left, gaps, strides, kind, stage);
+    best.cost
+}
+
+// The count with one more where there is a value.
+fn counted(feasible: u64, value: u64) -> u64
+    requires { ⌜ feasible < 2 ^ 63 ⌝ }
+    ensures { λ r. ⌜ r ≡ feasible + found (loaded value) ⌝ }
+{
+    if value == table::NONE {
+        feasible
+    } else {
+        feasible + 1
+    }
+}
+
+// Stores the entries of all states with one k; returns how many of them hold a value.
+pub fn fill_states(
+    table: &mut [u64],
+    left: &[u32],
+    marks: &[u32],
+    gaps: &[u32],
+    strides: &[usize],
+    stage: Stage,
+) -> u64
+    requires { ⌜ ((L : ℕ) → 1 ≤ L → L ≤ stage .kinds → Ready (now table) (now left) (now gaps) (now strides) L (stage .kinds) (stage .block) (stage .index) (stage .weight)) × ((length (now marks) ≡ 5) × ((stage .kinds ≤ 5) × (stage .goal ≡ 1 → stage .weight ≡ 1))) ⌝ }
+    ensures { λ _. ⌜ length (now (table .exit)) ≡ length (now (table .entry)) ⌝ }
+    ensures { λ _. ⌜ ((L : ℕ) → 1 ≤ L → L ≤ stage .kinds → getD (now (table .exit)) ((L - 1) * stage .block + stage .index) 0 ≡ stored (filling (now (table .entry)) (now (left .entry)) (now (gaps .entry)) (now (strides .entry)) (stage .kinds) (stage .block) (stage .index) (stage .weight) (stage .remaining) (eqb (at (now (marks .entry)) L) 1) L)) ⌝ }
+    ensures { λ _. ⌜ ((n : ℕ) → ((L : ℕ) → 1 ≤ L → L ≤ stage .kinds → n ≡ (L - 1) * stage .block + stage .index → ⊥) → getD (now (table .exit)) n 0 ≡ getD (now (table .entry)) n 0) ⌝ }
+    ensures { λ r. ⌜ r ≡ sumBelow (λ l. found (filling (now (table .entry)) (now (left .entry)) (now (gaps .entry)) (now (strides .entry)) (stage .kinds) (stage .block) (stage .index) (stage .weight) (stage .remaining) (eqb (at (now (marks .entry)) (l + 1)) 1) (l + 1))) (stage .kinds) ⌝ }
+{
+    let kinds = stage.kinds;
+    let block = stage.block;
+    let index = stage.index;
+    let mut feasible: u64 = 0;
+    let mut kind: usize = 0;
+    while kind < kinds {
+        let value = state_value(table, left, marks[kind], gaps, strides, kind + 1, stage);
+        table[kind * block + index] = value;
+        feasible = counted(feasible, value);
+        kind = kind + 1;
+    }
+    feasible
+}
