@@ -7,8 +7,9 @@
 struct plain {
     struct queue_record q;
     unsigned all[5];           /* K_j */
-    uint8_t job[5][60];        /* the jobs of each kind, by hand-in */
-    uint8_t permitted[5][60];  /* whether the n-th job of a kind is permitted at the place in question */
+    unsigned job[5][60];       /* the jobs of each kind, by hand-in */
+    unsigned low[5][61];       /* by kind and jobs left of it: the first place permitted to the job just cut */
+    unsigned high[5][61];      /* and the last */
     size_t p, weight[5];       /* P, and what one job of each kind left adds to an entry's number */
 };
 
@@ -16,12 +17,18 @@ static inline void plain_prepare(struct plain *w)
 {
     for (unsigned i = 0; i < w->q.jobs; i++) {
         unsigned j = w->q.kind[i] - 1;
-        w->job[j][w->all[j]++] = (uint8_t)(i + 1);
+        w->job[j][w->all[j]++] = i + 1;
     }
     w->p = 1;
     for (unsigned j = 0; j < w->q.kinds; j++) {
         w->weight[j] = w->p;
         w->p *= w->all[j] + 1;
+        for (unsigned n = 0; n < w->all[j]; n++) {
+            unsigned i = w->job[j][n], left = w->all[j] - n - 1, low = i > w->q.shift ? i - w->q.shift : 1, high = i + w->q.shift;
+            w->low[j][left] = low > w->q.first[j] ? low : w->q.first[j];
+            w->high[j][left] = high < w->q.last[j] ? high : w->q.last[j];
+        }
+        w->low[j][w->all[j]] = 61; /* with all left none was cut */
     }
 }
 
@@ -57,7 +64,7 @@ static inline uint64_t plain_fill(const struct plain *w, uint64_t *table)
         plain_next(w, table, at, k, next);
         for (unsigned l = 0; l < w->q.kinds; l++) {
             uint64_t value = UINT64_MAX;
-            if (k[l] < w->all[l] && ref_permitted(&w->q, w->job[l][w->all[l] - k[l] - 1], place))
+            if (w->low[l][k[l]] <= place && place <= w->high[l][k[l]])
                 value = left == 0 ? 0 : plain_least(w, l + 1, w->q.goal == 1 ? 1 : pupils, next, &best);
             kept += value != UINT64_MAX;
             table[l * w->p + at] = value;

@@ -10,6 +10,7 @@
 #include "kippertarn.h"
 #include "reference.h"
 
+#include <signal.h>
 #include <stdio.h>
 #include <sys/mman.h>
 #include <time.h>
@@ -80,6 +81,24 @@ static inline void expect(const char *what, uint64_t got, uint64_t wanted)
         printf("FAILED %s: %llu, wanted %llu\n", what, (unsigned long long)got, (unsigned long long)wanted);
         failures++;
     }
+}
+
+/* The message of the call under way, told where a call touches what it was not lent. */
+static const uint8_t *message_at_hand;
+static size_t length_at_hand;
+
+static inline void touched_outside(int signal_number)
+{
+    printf("FAILED: a call touched what it was not lent (signal %d)\n", signal_number);
+    print_bytes("message", message_at_hand, length_at_hand);
+    fflush(stdout);
+    _exit(1);
+}
+
+static inline void watch(const uint8_t *message, size_t length)
+{
+    message_at_hand = message;
+    length_at_hand = length;
 }
 
 #define AROUND 64 /* bytes watched on either side of a lent part */
@@ -158,6 +177,8 @@ static inline void open_rooms(void)
     wanted_table = malloc(8 * REF_MOST);
     if (!wanted_table)
         exit(1);
+    signal(SIGSEGV, touched_outside);
+    signal(SIGBUS, touched_outside);
 }
 
 /* Plans a message by the part and by the reference, with a table and a plan buffer of these lengths; answers the reference's. */
@@ -171,6 +192,7 @@ static inline struct ref_answer compare_plan(const char *what, const uint8_t *by
     memcpy(message.copy, bytes, length);
     memcpy(table.copy, wanted_table, 8 * wanted.filled);
     memcpy(plan.copy, wanted.plan, wanted.plan_bytes);
+    watch(bytes, length);
     answer = kippertarn_plan(address(&message), length, address(&table), entries, address(&plan), plan_length);
     compared++;
     met[wanted.answer % 256]++;
@@ -195,6 +217,7 @@ static inline void compare_checks(const char *what, const uint8_t *bytes, size_t
     memcpy(message.copy, bytes, length);
     *as_queue = ref_read_queue(bytes, length, &q);
     *as_plan = ref_check_plan(bytes, length);
+    watch(bytes, length);
     queue_answer = kippertarn_check_queue(address(&message), length);
     plan_answer = kippertarn_check_plan(address(&message), length);
     compared += 2;

@@ -140,6 +140,7 @@ int main(int count, char **words)
     static uint64_t table[KIPPERTARN_ENTRIES(5, 7, 7, 7, 7, 7)];
     unsigned long without = 0;
     char cases[160];
+    open_rooms();
     while (another_round(&rounds)) {
         struct queue_record q;
         uint8_t message[KIPPERTARN_QUEUE_BYTES], plan[KIPPERTARN_PLAN_BYTES];
@@ -147,6 +148,7 @@ int main(int count, char **words)
         size_t length;
         random_queue(&q, 7, sizeof table / sizeof *table);
         length = write_queue_record(&q, message, sizeof message);
+        watch(message, length);
         answer = kippertarn_plan(message, length, table, entries_of(&q), plan, sizeof plan);
         without += answer == 17;
         compared++;
