@@ -1,4 +1,5 @@
-/* Time and stack of the planning call, beside a planner written by hand in C and compiled at -O3: same messages, same tables, same answers. */
+/* Time and stack of the planning call, beside a planner written by hand in C and compiled at -O3: same messages, same
+ * tables, same answers. */
 #define _DEFAULT_SOURCE /* for clock_gettime and threads with a stack of their own */
 
 #include "kippertarn.h"
@@ -44,8 +45,12 @@ struct size {
 /* Chapter 5's gaps and pupils, with two kinds more. */
 static void make_queue(struct work *w, const struct size *size, unsigned goal, unsigned shift)
 {
-    static const unsigned rows[6][5] = { { 0 }, { 96, 181, 228, 140, 75 }, { 72, 80, 117, 101, 90 }, { 72, 80, 90, 133, 118 },
-                                         { 84, 95, 160, 77, 121 }, { 110, 70, 99, 150, 85 } };
+    static const unsigned rows[6][5] = { { 0 },
+                                         { 96, 181, 228, 140, 75 },
+                                         { 72, 80, 117, 101, 90 },
+                                         { 72, 80, 90, 133, 118 },
+                                         { 84, 95, 160, 77, 121 },
+                                         { 110, 70, 99, 150, 85 } };
     static const unsigned pupils[5] = { 300, 150, 100, 220, 60 };
     struct queue_record q = { .kinds = size->kinds, .goal = goal, .shift = shift, .start = 2 };
     memcpy(q.gap, rows, sizeof rows);
@@ -69,7 +74,8 @@ static int same_answers(struct work *w)
     uint8_t plan[KIPPERTARN_PLAN_BYTES];
     uint64_t answer = part(w->message, w->length, w->table, w->entries, w->plan, sizeof w->plan);
     int same = other && by_hand(w->message, w->length, other, w->entries, plan, sizeof plan) == answer
-               && memcmp(other, w->table, w->entries * sizeof *other) == 0 && memcmp(plan, w->plan, (size_t)KIPPERTARN_V(answer)) == 0;
+               && memcmp(other, w->table, w->entries * sizeof *other) == 0
+               && memcmp(plan, w->plan, (size_t)KIPPERTARN_V(answer)) == 0;
     free(other);
     return same;
 }
@@ -91,8 +97,8 @@ static double compare(struct work *w, const struct size *size, unsigned goal, un
         best_hand = b < best_hand ? b : best_hand;
     }
     per_entry = 1e6 / (double)w->entries;
-    printf("%9zu %5u %4u %5u %11.4f %9.2f %11.4f %9.2f %7.2f\n", w->entries, size->kinds, goal, shift, best_part, best_part * per_entry, best_hand,
-           best_hand * per_entry, best_part / best_hand);
+    printf("%9zu %5u %4u %5u %11.4f %9.2f %11.4f %9.2f %7.2f\n", w->entries, size->kinds, goal, shift, best_part,
+           best_part * per_entry, best_hand, best_hand * per_entry, best_part / best_hand);
     return best_part;
 }
 
@@ -116,7 +122,8 @@ static void call(const struct measured *m)
         part(w->message, w->length, w->table, w->entries, w->plan, sizeof w->plan);
 }
 
-/* Runs in a thread on the stack above: paints what lies well below this frame, calls, and looks how far down the paint is gone. */
+/* Runs in a thread on the stack above: paints what lies well below this frame, calls, and looks how far down the paint
+ * is gone. */
 static void *on_painted_stack(void *of)
 {
     struct measured *m = of;
@@ -146,7 +153,11 @@ static size_t stack_used(struct work *w, int entry)
 int main(void)
 {
     /* chapter 5 of the source, about 1,000, 10,000 and 100,000 entries, and the most there are */
-    static const struct size sizes[] = { { 3, { 5, 6, 4 } }, { 3, { 6, 6, 6 } }, { 4, { 6, 6, 6, 6 } }, { 5, { 7, 6, 6, 6, 6 } }, { 5, { 12, 12, 12, 12, 12 } } };
+    static const struct size sizes[] = { { 3, { 5, 6, 4 } },
+                                         { 3, { 6, 6, 6 } },
+                                         { 4, { 6, 6, 6, 6 } },
+                                         { 5, { 7, 6, 6, 6, 6 } },
+                                         { 5, { 12, 12, 12, 12, 12 } } };
     enum { SIZES = sizeof sizes / sizeof *sizes };
     static struct work w;
     double time[SIZES], entries[SIZES];
@@ -154,7 +165,8 @@ int main(void)
     if (!w.table)
         return 1;
     printf("Best of 9, in turn, one core; the table is not cleared between calls.\n");
-    printf("%9s %5s %4s %5s %11s %9s %11s %9s %7s\n", "entries", "kinds", "goal", "shift", "part ms", "ns/entry", "by hand ms", "ns/entry", "ratio");
+    printf("%9s %5s %4s %5s %11s %9s %11s %9s %7s\n", "entries", "kinds", "goal", "shift", "part ms", "ns/entry",
+           "by hand ms", "ns/entry", "ratio");
     for (unsigned goal = 1; goal <= 2; goal++)
         for (int i = 0; i < SIZES; i++) {
             time[i] = compare(&w, &sizes[i], goal, 60);
@@ -164,9 +176,11 @@ int main(void)
     compare(&w, &sizes[SIZES - 1], 2, 6);
     printf("Growth under goal 2, each size over the one before: ");
     for (int i = 1; i < SIZES; i++)
-        printf("entries x kinds by %.1f, time by %.1f%s", entries[i] / entries[i - 1], time[i] / time[i - 1], i < SIZES - 1 ? "; " : "\n");
+        printf("entries x kinds by %.1f, time by %.1f%s", entries[i] / entries[i - 1], time[i] / time[i - 1],
+               i < SIZES - 1 ? "; " : "\n");
     make_queue(&w, &sizes[SIZES - 1], 2, 60);
-    printf("Bytes of stack: check_queue %zu, check_plan %zu, plan %zu\n", stack_used(&w, 0), stack_used(&w, 1), stack_used(&w, 2));
+    printf("Bytes of stack: check_queue %zu, check_plan %zu, plan %zu\n", stack_used(&w, 0), stack_used(&w, 1),
+           stack_used(&w, 2));
     free(w.table);
     return 0;
 }

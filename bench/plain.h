@@ -6,11 +6,11 @@
 
 struct plain {
     struct queue_record q;
-    unsigned all[5];           /* K_j */
-    unsigned job[5][60];       /* the jobs of each kind, by hand-in */
-    unsigned low[5][61];       /* by kind and jobs left of it: the first place permitted to the job just cut */
-    unsigned high[5][61];      /* and the last */
-    size_t p, weight[5];       /* P, and what one job of each kind left adds to an entry's number */
+    unsigned all[5];      /* K_j */
+    unsigned job[5][60];  /* the jobs of each kind, by hand-in */
+    unsigned low[5][61];  /* by kind and jobs left of it: the first place permitted to the job just cut */
+    unsigned high[5][61]; /* and the last */
+    size_t p, weight[5];  /* P, and what one job of each kind left adds to an entry's number */
 };
 
 static inline void plain_prepare(struct plain *w)
@@ -24,7 +24,8 @@ static inline void plain_prepare(struct plain *w)
         w->weight[j] = w->p;
         w->p *= w->all[j] + 1;
         for (unsigned n = 0; n < w->all[j]; n++) {
-            unsigned i = w->job[j][n], left = w->all[j] - n - 1, low = i > w->q.shift ? i - w->q.shift : 1, high = i + w->q.shift;
+            unsigned i = w->job[j][n], left = w->all[j] - n - 1, low = i > w->q.shift ? i - w->q.shift : 1,
+                     high = i + w->q.shift;
             w->low[j][left] = low > w->q.first[j] ? low : w->q.first[j];
             w->high[j][left] = high < w->q.last[j] ? high : w->q.last[j];
         }
@@ -33,7 +34,8 @@ static inline void plain_prepare(struct plain *w)
 }
 
 /* The least from row L over the next states' values, and the smallest kind that reaches it. */
-static inline uint64_t plain_least(const struct plain *w, unsigned l, uint64_t pupils, const uint64_t *next, unsigned *best)
+static inline uint64_t plain_least(const struct plain *w, unsigned l, uint64_t pupils, const uint64_t *next,
+                                   unsigned *best)
 {
     uint64_t least = UINT64_MAX;
     for (unsigned x = 0; x < w->q.kinds; x++)
@@ -48,7 +50,8 @@ static inline uint64_t plain_least(const struct plain *w, unsigned l, uint64_t p
 }
 
 /* The values of the states that follow k, whose part of the entry number is `at`. */
-static inline void plain_next(const struct plain *w, const uint64_t *table, size_t at, const unsigned *k, uint64_t *next)
+static inline void plain_next(const struct plain *w, const uint64_t *table, size_t at, const unsigned *k,
+                              uint64_t *next)
 {
     for (unsigned x = 0; x < w->q.kinds; x++)
         next[x] = k[x] ? table[x * w->p + at - w->weight[x]] : UINT64_MAX;
@@ -84,7 +87,8 @@ static inline uint64_t plain_fill(const struct plain *w, uint64_t *table)
     return kept;
 }
 
-static inline uint64_t plain_plan(const uint8_t *message, size_t length, uint64_t *table, size_t entries, uint8_t *plan, size_t plan_length)
+static inline uint64_t plain_plan(const uint8_t *message, size_t length, uint64_t *table, size_t entries, uint8_t *plan,
+                                  size_t plan_length)
 {
     struct plain w = { 0 };
     struct message_place to = { plan, plan_length, 0 };

@@ -1,5 +1,5 @@
-/* Queue messages from a record, and plan messages into one: a convenience for trying the part out. Unlike the part it is not proved; the
- * part alone judges a message (kippertarn_check_queue, kippertarn_check_plan). */
+/* Queue messages from a record, and plan messages into one: a convenience for trying the part out. Unlike the part it
+ * is not proved; the part alone judges a message (kippertarn_check_queue, kippertarn_check_plan). */
 #ifndef KIPPERTARN_MESSAGES_H
 #define KIPPERTARN_MESSAGES_H
 
@@ -7,19 +7,19 @@
 #include <stdint.h>
 
 struct queue_record {
-    unsigned kinds;                         /* N */
+    unsigned kinds; /* N */
     unsigned goal, shift, start;
-    unsigned gap[6][5];                     /* gap[i][j - 1], from kind i (0 for the cold cutter) to kind j, in seconds */
-    unsigned pupils[5], first[5], last[5];  /* w_j, a_j and b_j at j - 1 */
-    unsigned jobs;                          /* T */
-    unsigned kind[60];                      /* the kind of each job, by hand-in */
+    unsigned gap[6][5]; /* gap[i][j - 1], from kind i (0 for the cold cutter) to kind j, in seconds */
+    unsigned pupils[5], first[5], last[5]; /* w_j, a_j and b_j at j - 1 */
+    unsigned jobs;                         /* T */
+    unsigned kind[60];                     /* the kind of each job, by hand-in */
 };
 
 struct plan_record {
     unsigned goal;
     uint64_t cost, kept;
-    unsigned jobs;     /* T */
-    unsigned job[60];  /* the job at each place */
+    unsigned jobs;    /* T */
+    unsigned job[60]; /* the job at each place */
 };
 
 /* A place in a message being written or read; past its end once something did not fit. */
@@ -39,8 +39,8 @@ static inline void put_number(struct message_place *to, uint64_t value)
     } while (value);
 }
 
-/* The queue's message. Answers its length, or 0 where the record's N is over 5, its T over 60, or the room too short; KIPPERTARN_QUEUE_BYTES
- * are room enough for any message that the part accepts. */
+/* The queue's message. Answers its length, or 0 where the record's N is over 5, its T over 60, or the room too short;
+ * KIPPERTARN_QUEUE_BYTES are room enough for any message that the part accepts. */
 static inline size_t write_queue_record(const struct queue_record *queue, uint8_t *message, size_t room)
 {
     struct message_place to = { message, room, 0 };

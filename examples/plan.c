@@ -13,7 +13,8 @@ static int refused(uint64_t answer)
 
 int main(int count, char **words)
 {
-    uint8_t message[2 * KIPPERTARN_QUEUE_BYTES], plan[KIPPERTARN_PLAN_BYTES]; /* a message that is too long is to be refused as such */
+    uint8_t message[2 * KIPPERTARN_QUEUE_BYTES],
+        plan[KIPPERTARN_PLAN_BYTES]; /* a message that is too long is to be refused as such */
     struct plan_record planned;
     FILE *file = count > 1 ? fopen(words[1], "rb") : stdin;
     if (!file) {

@@ -5,7 +5,8 @@ usage: queue_text.py pack [TEXT [MESSAGE]]      a text into a queue message
        queue_text.py show [MESSAGE [TEXT]]      a queue or plan message into text
        queue_text.py --self-test
 
-Files default to standard input and output. A text has one line for each of these, in any order; `#` starts a comment:
+Files default to standard input and output. A text has one line for each of these, in any order; `#` starts a
+comment:
 
     goal 1            # 1 last finish, 2 total waiting
     shift 1
@@ -17,10 +18,14 @@ Files default to standard input and output. A text has one line for each of thes
     places 1-60 1-60  # first and last place allowed to kinds 1 to N
     jobs 1 2 1        # the kind of each job, by hand-in
 
-N is the number of pupils; left out, goal is 1, shift 60, start 0 and every place allowed. Numbers are written as they stand: whether a message
-is accepted is for the part to say (kippertarn_check_queue). This tool is a convenience and is not proved.
+N is the number of pupils; left out, goal is 1, shift 60, start 0 and every place allowed. Numbers are written as they
+stand: whether a message is accepted is for the part to say (kippertarn_check_queue). This tool is a convenience and is
+not proved.
 """
 import sys
+
+
+NAMES = ("goal", "shift", "start", "gaps", "pupils", "places", "jobs")
 
 
 class Unreadable(Exception):
@@ -71,7 +76,7 @@ def pack(text):
         if not words:
             continue
         name, rest = words[0], words[1:]
-        if name not in ("goal", "shift", "start", "gaps", "pupils", "places", "jobs") or (name in said and name != "gaps"):
+        if name not in NAMES or (name in said and name != "gaps"):
             raise Unreadable("line %d: %s is not expected here" % (number, name))
         try:
             values = [int(word) for part in rest for word in (part.split("-") if name == "places" else [part])]
@@ -133,6 +138,7 @@ def show(message):
 
 
 CASE_A = bytes.fromhex("51530102010100 0A0A 1432 281E 0301 013C 013C 03 010201")
+NO_JOBS = bytes.fromhex("51530101013C00 FFFF03 00 8001 01 3C 00")
 PLAN_B = bytes.fromhex("51500102C801 07 03 010302")
 
 
@@ -141,13 +147,14 @@ def self_test():
     import pathlib
     checks = [pack(show(CASE_A)) == CASE_A,
               show(PLAN_B) == "plan goal 2\ncost 200\nkept 7\norder 1 3 2\n",
-              pack("gaps 65535 # row 0\ngaps 0\npupils 128\n") == bytes.fromhex("5153 01 01 01 3C 00 FFFF03 00 8001 01 3C 00"),
-              pack(__doc__.split("a comment:\n")[1].split("N is")[0]) == CASE_A]
+              pack("gaps 65535 # row 0\ngaps 0\npupils 128\n") == NO_JOBS,
+              pack(__doc__.split("comment:\n")[1].split("N is")[0]) == CASE_A]
     examples = sorted((pathlib.Path(__file__).parent.parent / "examples").glob("*.queue"))
     checks += [pack(show(path.read_bytes())) == path.read_bytes() for path in examples]
     for bad in [b"", b"Q", b"QT", CASE_A[:-1], CASE_A + b"\1", b"QS\x81\0", b"QS\x81", b"QS\2", b"QP\x80\x80\x80\1"]:
         checks.append(refused(show, bad))
-    for bad in ["goal", "goal 1 2", "goal x", "gaol 1", "goal 1\ngoal 1", "shift -1", "pupils 1", "gaps 1\ngaps 2\npupils 1\nplaces 1"]:
+    for bad in ["goal", "goal 1 2", "goal x", "gaol 1", "goal 1\ngoal 1", "shift -1", "pupils 1",
+                "gaps 1\ngaps 2\npupils 1\nplaces 1"]:
         checks.append(refused(pack, bad))
     if not all(checks) or len(examples) < 8:
         print("FAILED queue_text: check %d of %d" % (checks.index(False) + 1 if False in checks else 0, len(checks)))

@@ -47,7 +47,8 @@ static void expect_file(const char *name, const struct message *m)
 }
 
 /* Plans a case with a table of exactly N x P entries, and holds it to these plan bytes; none stand for 17. */
-static void expect_plan(const char *name, const struct message *m, size_t entries, const uint8_t *plan, size_t plan_bytes)
+static void expect_plan(const char *name, const struct message *m, size_t entries, const uint8_t *plan,
+                        size_t plan_bytes)
 {
     struct ref_answer a = compare_plan(name, m->bytes, m->length, entries, 77);
     expect(name, a.answer, plan_bytes ? 256 * plan_bytes : 17);
@@ -59,10 +60,12 @@ static void expect_plan(const char *name, const struct message *m, size_t entrie
 
 static void small_queues(void)
 {
-    struct message a = queue_of_a(), b = a_with(GOAL, 2), c = a_with(A_2, 3), d = a_with(A_1, 2), e = a_with(A_1, 3), f = a_with(SHIFT, 0), g, h;
+    struct message a = queue_of_a(), b = a_with(GOAL, 2), c = a_with(A_2, 3), d = a_with(A_1, 2), e = a_with(A_1, 3),
+                   f = a_with(SHIFT, 0), g, h;
     struct message f_none = f;
     /* 01 gives these orders and costs; the kept counts of C, D and H are counted by hand. */
-    static const uint8_t plan_c[] = { 0x51, 0x50, 1, 1, 80, 5, 3, 1, 3, 2 }, plan_d[] = { 0x51, 0x50, 1, 1, 70, 6, 3, 2, 1, 3 },
+    static const uint8_t plan_c[] = { 0x51, 0x50, 1, 1, 80, 5, 3, 1, 3, 2 },
+                         plan_d[] = { 0x51, 0x50, 1, 1, 70, 6, 3, 2, 1, 3 },
                          plan_f[] = { 0x51, 0x50, 1, 1, 100, 3, 3, 1, 2, 3 }, plan_g[] = { 0x51, 0x50, 1, 1, 0, 0, 0 },
                          plan_h[] = { 0x51, 0x50, 1, 1, 0, 4, 2, 2, 1 };
     expect_plan("case-a", &a, 12, plan_a, sizeof plan_a);
@@ -92,7 +95,7 @@ static void expect_refusal(const char *what, struct message m, int refusal)
     compare_plan(what, m.bytes, m.length, 12, 77);
 }
 
-#define WITH(at, ...) a_with_bytes(at, (const uint8_t[]){ __VA_ARGS__ }, sizeof (const uint8_t[]){ __VA_ARGS__ })
+#define WITH(at, ...) a_with_bytes(at, (const uint8_t[]){ __VA_ARGS__ }, sizeof(const uint8_t[]){ __VA_ARGS__ })
 
 static void refusals(void)
 {
@@ -124,7 +127,8 @@ static void refusals(void)
     expect_refusal("first place 0", a_with(A_1, 0), 11);
     expect_refusal("first place 61", a_with(A_1, 61), 11);
     expect_refusal("last place 61", a_with(A_1 + 1, 61), 11);
-    expect_refusal("first place 0, last place in two groups", (struct message){ { 0x51, 0x53, 1, 1, 1, 0, 0, 0, 0, 0, 0, 0x80, 0x00 }, 13 }, 3);
+    expect_refusal("first place 0, last place in two groups",
+                   (struct message){ { 0x51, 0x53, 1, 1, 1, 0, 0, 0, 0, 0, 0, 0x80, 0x00 }, 13 }, 3);
     expect_refusal("first place 0 and no more", (struct message){ { 0x51, 0x53, 1, 1, 1, 0, 0, 0, 0, 0, 0 }, 11 }, 2);
     expect_refusal("61 jobs and no more", (struct message){ { 0x51, 0x53, 1, 1, 1, 0, 0, 0, 0, 0, 1, 1, 61 }, 13 }, 12);
     expect_refusal("kind 0", a_with(JOBS + 1, 0), 13);
@@ -140,14 +144,16 @@ static void refusals(void)
     expect("job 5 of 2 and no more", kippertarn_check_plan((const uint8_t[]){ 0x51, 0x50, 1, 1, 0, 0, 2, 5 }, 8), 18);
     expect("a cost of 2^42 - 1, no jobs",
            kippertarn_check_plan((const uint8_t[]){ 0x51, 0x50, 1, 1, 255, 255, 255, 255, 255, 127, 0, 0 }, 12), 0);
-    expect("a cost of seven groups", kippertarn_check_plan((const uint8_t[]){ 0x51, 0x50, 1, 1, 128, 128, 128, 128, 128, 128, 1, 0, 0 }, 13), 3);
+    expect("a cost of seven groups",
+           kippertarn_check_plan((const uint8_t[]){ 0x51, 0x50, 1, 1, 128, 128, 128, 128, 128, 128, 1, 0, 0 }, 13), 3);
 }
 
 /* Bounds of the messages' lengths that 01 states, reached. */
 static void longest(void)
 {
     struct queue_record q = { .kinds = 5, .goal = 1, .jobs = 60 };
-    uint8_t message[KIPPERTARN_QUEUE_BYTES + 1], plan[KIPPERTARN_PLAN_BYTES] = { 0x51, 0x50, 1, 2, 255, 255, 255, 255, 255, 127, 255, 255, 255, 255, 255, 127, 60 };
+    uint8_t message[4000] = { 0 }, plan[KIPPERTARN_PLAN_BYTES] = { 0x51, 0x50, 1,   2,   255, 255, 255, 255, 255,
+                                                                   127,  255,  255, 255, 255, 255, 127, 60 };
     for (unsigned j = 0; j < 5; j++) {
         q.pupils[j] = 1000;
         q.first[j] = q.last[j] = 60;
@@ -161,6 +167,15 @@ static void longest(void)
     expect("the longest queue", write_queue_record(&q, message, sizeof message), KIPPERTARN_QUEUE_BYTES);
     expect("the longest queue", kippertarn_check_queue(message, KIPPERTARN_QUEUE_BYTES), 0);
     expect("the longest queue in too little room", write_queue_record(&q, message, KIPPERTARN_QUEUE_BYTES - 1), 0);
+    expect("and a byte", kippertarn_check_queue(message, KIPPERTARN_QUEUE_BYTES + 1), 14);
+    expect("and many bytes", kippertarn_check_queue(message, sizeof message), 14);
+    memcpy(message + 177, (const uint8_t[]){ 0x81, 0x80, 0x01 }, 3); /* a reader looks at 180 bytes at most */
+    expect("its last kind in three bytes", kippertarn_check_queue(message, 180), 13);
+    expect("its last kind cut off", kippertarn_check_queue(message, 179), 2);
+    message[179] = 0x80;
+    expect("its last kind without an end", kippertarn_check_queue(message, 180), 3);
+    message[179] = 0;
+    expect("its last kind ended by 00", kippertarn_check_queue(message, 180), 3);
     expect("the longest plan", kippertarn_check_plan(plan, KIPPERTARN_PLAN_BYTES), 0);
     q.jobs = 61;
     expect("61 jobs have no room in a record", write_queue_record(&q, message, sizeof message), 0);

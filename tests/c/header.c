@@ -8,7 +8,8 @@ uint64_t plan_in_static_table(const uint8_t *message, size_t length, uint8_t *pl
 
 uint64_t plan_in_static_table(const uint8_t *message, size_t length, uint8_t *plan)
 {
-    uint64_t answer = kippertarn_check_queue(message, length < KIPPERTARN_QUEUE_BYTES ? length : KIPPERTARN_QUEUE_BYTES);
+    uint64_t answer = kippertarn_check_queue(message,
+                                             length < KIPPERTARN_QUEUE_BYTES ? length : KIPPERTARN_QUEUE_BYTES);
     struct plan_record planned;
     if (KIPPERTARN_R(answer) == KIPPERTARN_DONE)
         answer = kippertarn_plan(message, length, table, sizeof table / sizeof *table, plan, KIPPERTARN_PLAN_BYTES);

@@ -1,7 +1,8 @@
 /* Calls of the part with everything it is lent watched, and compared with the reference.
  *
- * Each part lent stands between two pages that may not be touched, with bytes of chance around and in it. A copy of the whole is written as
- * 01 says the part must be, and compared afterwards: what 01 does not say to be written has to be as it was. */
+ * Each part lent stands between two pages that may not be touched, with bytes of chance around and in it. A copy of the
+ * whole is written as 01 says the part must be, and compared afterwards: what 01 does not say to be written has to be
+ * as it was. */
 #ifndef LENT_H
 #define LENT_H
 
@@ -114,7 +115,8 @@ static inline struct room new_room(size_t least)
     size_t page = (size_t)sysconf(_SC_PAGESIZE), size = (least + 2 * AROUND + page - 1) / page * page;
     uint8_t *map = mmap(NULL, size + 2 * page, PROT_READ | PROT_WRITE, MAP_PRIVATE | MAP_ANONYMOUS, -1, 0);
     struct room r = { map + page, malloc(size), size };
-    if (map == MAP_FAILED || !r.copy || mprotect(map, page, PROT_NONE) || mprotect(map + page + size, page, PROT_NONE)) {
+    if (map == MAP_FAILED || !r.copy || mprotect(map, page, PROT_NONE)
+        || mprotect(map + page + size, page, PROT_NONE)) {
         printf("FAILED: no memory for the tests\n");
         exit(1);
     }
@@ -124,7 +126,7 @@ static inline struct room new_room(size_t least)
 /* A part of a room, and what is watched around it. */
 struct lent {
     const char *name;
-    uint8_t *bytes, *copy;       /* the part, and its copy */
+    uint8_t *bytes, *copy; /* the part, and its copy */
     size_t length, before, behind;
 };
 
@@ -159,8 +161,8 @@ static inline int as_wanted(const struct lent *l)
         return 1;
     for (size_t i = 0; i < all; i++)
         if (got[i] != wanted[i]) {
-            printf("FAILED the %s of %zu bytes: byte %ld is %02X, wanted %02X\n", l->name, l->length, (long)i - (long)l->before, got[i],
-                   wanted[i]);
+            printf("FAILED the %s of %zu bytes: byte %ld is %02X, wanted %02X\n", l->name, l->length,
+                   (long)i - (long)l->before, got[i], wanted[i]);
             break;
         }
     return 0;
@@ -181,8 +183,10 @@ static inline void open_rooms(void)
     signal(SIGBUS, touched_outside);
 }
 
-/* Plans a message by the part and by the reference, with a table and a plan buffer of these lengths; answers the reference's. */
-static inline struct ref_answer compare_plan(const char *what, const uint8_t *bytes, size_t length, size_t entries, size_t plan_length)
+/* Plans a message by the part and by the reference, with a table and a plan buffer of these lengths; answers the
+ * reference's. */
+static inline struct ref_answer compare_plan(const char *what, const uint8_t *bytes, size_t length, size_t entries,
+                                             size_t plan_length)
 {
     struct ref_answer wanted = ref_plan(bytes, length, wanted_table, entries, plan_length);
     struct lent message = lend(&message_room, "message", length), table = lend(&table_room, "table", 8 * entries),
@@ -197,8 +201,8 @@ static inline struct ref_answer compare_plan(const char *what, const uint8_t *by
     compared++;
     met[wanted.answer % 256]++;
     if (!as_wanted(&message) + !as_wanted(&table) + !as_wanted(&plan) || answer != wanted.answer) {
-        printf("FAILED %s: answer %llu, wanted %llu, with %zu entries and a plan buffer of %zu\n", what, (unsigned long long)answer,
-               (unsigned long long)wanted.answer, entries, plan_length);
+        printf("FAILED %s: answer %llu, wanted %llu, with %zu entries and a plan buffer of %zu\n", what,
+               (unsigned long long)answer, (unsigned long long)wanted.answer, entries, plan_length);
         print_bytes("queue", bytes, length);
         print_bytes("wanted plan", wanted.plan, wanted.plan_bytes);
         print_bytes("plan buffer", plan.bytes, plan_length < 77 ? plan_length : 77);
@@ -222,14 +226,15 @@ static inline void compare_checks(const char *what, const uint8_t *bytes, size_t
     plan_answer = kippertarn_check_plan(address(&message), length);
     compared += 2;
     if (queue_answer != (uint64_t)*as_queue || plan_answer != (uint64_t)*as_plan || !as_wanted(&message)) {
-        printf("FAILED %s: as a queue %llu, wanted %d; as a plan %llu, wanted %d\n", what, (unsigned long long)queue_answer, *as_queue,
-               (unsigned long long)plan_answer, *as_plan);
+        printf("FAILED %s: as a queue %llu, wanted %d; as a plan %llu, wanted %d\n", what,
+               (unsigned long long)queue_answer, *as_queue, (unsigned long long)plan_answer, *as_plan);
         print_bytes("message", bytes, length);
         failures++;
     }
 }
 
-/* The message in examples/NAME.queue; answers its length, 0 where there is none. Tests run from the top of the repository. */
+/* The message in examples/NAME.queue; answers its length, 0 where there is none. Tests run from the top of the
+ * repository. */
 static inline size_t read_example(const char *name, uint8_t *bytes, size_t room)
 {
     char path[80];

@@ -1,5 +1,5 @@
-/* Lent lengths from 0 up around each limit, null pointers, asking for the table's size, and calls in several threads at once. What may not be
- * written is watched in every call (lent.h). */
+/* Lent lengths from 0 up around each limit, null pointers, asking for the table's size, and calls in several threads at
+ * once. What may not be written is watched in every call (lent.h). */
 #include "queues.h"
 
 #include <pthread.h>
@@ -19,8 +19,8 @@ static void around_limits(const char *what, const uint8_t *message, size_t lengt
 /* 01's cases and chapter 5, whole, cut off and with a byte more, and random queues. */
 static void messages_around_limits(unsigned long random_queues)
 {
-    static const char *const names[] = { "case-a", "case-b", "case-c", "case-d", "case-e", "case-f", "case-f-none", "case-g", "case-h",
-                                         "chapter5-goal1", "chapter5-goal2" };
+    static const char *const names[] = { "case-a",      "case-b", "case-c", "case-d",         "case-e",        "case-f",
+                                         "case-f-none", "case-g", "case-h", "chapter5-goal1", "chapter5-goal2" };
     uint8_t message[256];
     for (size_t i = 0; i < sizeof names / sizeof *names; i++) {
         size_t length = read_example(names[i], message, sizeof message - 1);
@@ -48,8 +48,33 @@ static void null_pointers(void)
     expect("no message", kippertarn_plan(NULL, 0, table, 12, plan, sizeof plan), 1);
     expect("no plan buffer, no table", kippertarn_plan(message, length, NULL, 0, NULL, 0), 15);
     expect("no plan buffer", kippertarn_plan(message, length, table, 12, NULL, 0), 15);
-    expect("no table: its size", kippertarn_plan(message, length, NULL, 0, plan, sizeof plan), KIPPERTARN_TABLE + 256 * 12);
-    expect("all that is needed", kippertarn_plan(message, length, table, 12, plan, sizeof plan), KIPPERTARN_DONE + 256 * 10);
+    expect("no table: its size", kippertarn_plan(message, length, NULL, 0, plan, sizeof plan),
+           KIPPERTARN_TABLE + 256 * 12);
+    expect("all that is needed", kippertarn_plan(message, length, table, 12, plan, sizeof plan),
+           KIPPERTARN_DONE + 256 * 10);
+}
+
+/* Lengths of more than 32 bits, where the system has so much address space to give; only what is needed of it is
+ * touched. */
+static int huge_lengths(void)
+{
+    static const size_t huge = (size_t)1 << 32;
+    uint8_t message[64], plan[KIPPERTARN_PLAN_BYTES];
+    uint64_t table[12];
+    size_t length = read_example("case-a", message, sizeof message);
+    uint8_t *space = mmap(NULL, 8 * huge, PROT_READ | PROT_WRITE, MAP_PRIVATE | MAP_ANONYMOUS | MAP_NORESERVE, -1, 0);
+    if (space == MAP_FAILED)
+        return 0;
+    expect("a table of 2^32 entries",
+           kippertarn_plan(message, length, (uint64_t *)(void *)space, huge, plan, sizeof plan), 256 * 10);
+    expect("a plan buffer of 2^32 bytes", kippertarn_plan(message, length, table, 12, space, huge), 256 * 10);
+    expect("a plan of 2^32 bytes and 10", kippertarn_check_plan(space, huge + 10), 14);
+    memcpy(space, message, length);
+    expect("a queue of 2^32 bytes and 23", kippertarn_check_queue(space, huge + length), 14);
+    expect("a queue of 2^32 bytes and 23, planned", kippertarn_plan(space, huge + length, table, 12, plan, sizeof plan),
+           14);
+    munmap(space, 8 * huge);
+    return 1;
 }
 
 /* A queue planned over and over beside others. */
@@ -67,7 +92,8 @@ static void *plan_again(void *of)
     first = kippertarn_plan(message, length, table[0], entries, plan[0], sizeof plan[0]);
     for (int i = 0; i < 500; i++) {
         again = kippertarn_plan(message, length, table[1], entries, plan[1], sizeof plan[1]);
-        p->different += again != first || memcmp(plan[0], plan[1], sizeof plan[0]) || memcmp(table[0], table[1], sizeof table[0]);
+        p->different += again != first || memcmp(plan[0], plan[1], sizeof plan[0])
+                        || memcmp(table[0], table[1], sizeof table[0]);
     }
     return NULL;
 }
@@ -97,5 +123,8 @@ int main(int count, char **words)
     messages_around_limits(rounds.wanted);
     null_pointers();
     in_threads();
-    return summary("limits", "lengths around every limit, null pointers, threads");
+    if (huge_lengths())
+        return summary("limits", "lengths around every limit and over 32 bits, null pointers, threads");
+    return summary("limits",
+                   "lengths around every limit, null pointers, threads (no address space for lengths over 32 bits)");
 }

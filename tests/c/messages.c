@@ -1,5 +1,5 @@
-/* Damaged messages through all three entries: every refusal of the readers just inside and just outside its bound, several faults at once,
- * bytes cut off, added and changed; compared with readers written from 01 alone. */
+/* Damaged messages through all three entries: every refusal of the readers just inside and just outside its bound,
+ * several faults at once, bytes cut off, added and changed; compared with readers written from 01 alone. */
 #include "queues.h"
 
 static unsigned long met_queue[19], met_plan[19], messages;
@@ -75,14 +75,16 @@ static void every_bound(const struct numbers *n, uint8_t second)
 {
     uint8_t message[1024];
     for (size_t at = 0; at < n->count; at++) {
-        uint64_t values[6] = { n->low[at], n->low[at] ? n->low[at] - 1 : 0, n->high[at], (uint64_t)n->high[at] + 1, 127, 1 << 21 };
+        uint64_t values[6] = { n->low[at], n->low[at] ? n->low[at] - 1 : 0, n->high[at], (uint64_t)n->high[at] + 1, 127,
+                               1 << 21 };
         for (unsigned v = 0; v < 6; v++) {
             struct numbers other = *n;
             other.value[at] = values[v];
             size_t length = write_numbers(&other, second, n->count, message, sizeof message - 8);
             compare_message("a number at its bound", message, length);
         }
-        compare_message("a number in too many groups", message, write_numbers(n, second, at, message, sizeof message - 8));
+        compare_message("a number in too many groups", message,
+                        write_numbers(n, second, at, message, sizeof message - 8));
     }
 }
 
@@ -118,7 +120,7 @@ int main(int count, char **words)
     while (another_round(&rounds)) {
         struct queue_record q;
         struct numbers queue, plan = plan_numbers();
-        random_queue(&q, 60, 200);
+        random_queue(&q, 60, rounds.done % 4 ? 200 : 1500); /* 60 jobs of 5 kinds need 305 at least */
         queue = queue_numbers(&q);
         damaged("a damaged queue", queue, 0x53);
         damaged("a damaged plan", plan, 0x50);

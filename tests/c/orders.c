@@ -1,6 +1,6 @@
-/* Small queues against all their orders, those that exchange jobs of one kind included: 17 exactly when none is permitted, none permitted
- * costs less than the plan, the plan's order is permitted and costs what it states, the kept count is 01's sentence counted out. Nothing here
- * uses the recursion. */
+/* Small queues against all their orders, those that exchange jobs of one kind included: 17 exactly when none is
+ * permitted, none permitted costs less than the plan, the plan's order is permitted and costs what it states, the kept
+ * count is 01's sentence counted out. Nothing here uses the recursion. */
 #include "queues.h"
 
 static unsigned long orders_tried, states_tried;
@@ -27,7 +27,8 @@ static int order_permitted(const struct queue_record *q, const unsigned *job)
     return 1;
 }
 
-/* Among all permitted orders that go on from `job`: the least cost, and the kinds of the first by kinds that reaches it. */
+/* Among all permitted orders that go on from `job`: the least cost, and the kinds of the first by kinds that reaches
+ * it. */
 struct best {
     uint64_t cost;
     unsigned kinds[8];
@@ -124,9 +125,11 @@ static int plan_is_best(const struct queue_record *q, uint64_t answer, const uin
     try_orders(q, job, 0, &best);
     if (best.cost == UINT64_MAX)
         return answer == 17;
-    if (answer % 256 != 0 || !read_plan_record(&plan, bytes, (size_t)(answer / 256)) || kippertarn_check_plan(bytes, (size_t)(answer / 256)))
+    if (answer % 256 != 0 || !read_plan_record(&plan, bytes, (size_t)(answer / 256))
+        || kippertarn_check_plan(bytes, (size_t)(answer / 256)))
         return 0;
-    if (plan.goal != q->goal || plan.jobs != q->jobs || !order_permitted(q, plan.job) || plan.cost != order_cost(q, plan.job))
+    if (plan.goal != q->goal || plan.jobs != q->jobs || !order_permitted(q, plan.job)
+        || plan.cost != order_cost(q, plan.job))
         return 0;
     for (unsigned place = 0; place < q->jobs; place++)
         if (q->kind[plan.job[place] - 1] != best.kinds[place])
@@ -159,7 +162,7 @@ int main(int count, char **words)
             failures++;
         }
     }
-    snprintf(cases, sizeof cases, "%lu queues, %lu without an order, %lu permitted orders, %lu sets of jobs left", compared, without, orders_tried,
-             states_tried);
+    snprintf(cases, sizeof cases, "%lu queues, %lu without an order, %lu permitted orders, %lu sets of jobs left",
+             compared, without, orders_tried, states_tried);
     return summary("orders", cases);
 }

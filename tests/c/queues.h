@@ -12,14 +12,16 @@ static inline size_t entries_of(const struct queue_record *q)
     return KIPPERTARN_ENTRIES(q->kinds, k[0], k[1], k[2], k[3], k[4]);
 }
 
-/* A permitted order to build windows around, so that tight queues are not all without an order: jobs moved by at most `far`. */
+/* A permitted order to build windows around, so that tight queues are not all without an order: jobs moved by at most
+ * `far`. */
 static inline void place_jobs(const struct queue_record *q, unsigned far, unsigned *place)
 {
     for (unsigned i = 0; i < q->jobs; i++)
         place[i] = i + 1;
     for (unsigned swaps = below(2 * q->jobs + 1); swaps > 0; swaps--) {
         unsigned i = below(q->jobs), j = below(q->jobs), to_i = place[j], to_j = place[i];
-        unsigned i_moved = to_i > i + 1 ? to_i - i - 1 : i + 1 - to_i, j_moved = to_j > j + 1 ? to_j - j - 1 : j + 1 - to_j;
+        unsigned i_moved = to_i > i + 1 ? to_i - i - 1 : i + 1 - to_i,
+                 j_moved = to_j > j + 1 ? to_j - j - 1 : j + 1 - to_j;
         if (i_moved <= far && j_moved <= far) {
             place[i] = to_i;
             place[j] = to_j;
@@ -160,7 +162,8 @@ static inline void damage_number(struct numbers *n)
     }
 }
 
-/* The numbers as a message. The number at `odd`, if any, gets a group more than it needs, or bit 7 in its last group. */
+/* The numbers as a message. The number at `odd`, if any, gets a group more than it needs, or bit 7 in its last group.
+ */
 static inline size_t write_numbers(const struct numbers *n, uint8_t second, size_t odd, uint8_t *message, size_t room)
 {
     struct message_place to = { message, room, 2 };

@@ -1,4 +1,5 @@
-/* Random queues through the planning entry: answer, plan bytes, every table entry and everything around them as the reference has them. */
+/* Random queues through the planning entry: answer, plan bytes, every table entry and everything around them as the
+ * reference has them. */
 #include "queues.h"
 
 /* Most tables small, some large. */
@@ -31,7 +32,8 @@ static void largest(unsigned goal)
             q.gap[i][j] = between(65000, 65535);
     }
     expect("the largest table", entries_of(&q), KIPPERTARN_ENTRIES_MOST);
-    compare_plan("the largest table", message, write_queue_record(&q, message, sizeof message), KIPPERTARN_ENTRIES_MOST, 77);
+    compare_plan("the largest table", message, write_queue_record(&q, message, sizeof message), KIPPERTARN_ENTRIES_MOST,
+                 77);
 }
 
 int main(int count, char **words)
@@ -51,7 +53,8 @@ int main(int count, char **words)
         random_queue(&q, 60, table_limit(rounds.done));
         length = write_queue_record(&q, message, sizeof message);
         needed = entries_of(&q);
-        struct ref_answer a = compare_plan("a random queue", message, length, needed + (below(4) ? 0 : below(9)), 77 + (below(4) ? 0 : below(99)));
+        struct ref_answer a = compare_plan("a random queue", message, length, needed + (below(4) ? 0 : below(9)),
+                                           77 + (below(4) ? 0 : below(99)));
         if (a.answer % 256 == 0)
             compare_record(&a, &q);
         else

@@ -123,12 +123,12 @@ struct ref_answer {
 /* What is worked out of one queue. Values and fillings are worked out once each, and remembered. */
 struct ref_work {
     struct queue_record q;
-    unsigned all[5];         /* K_j */
-    unsigned job[5][60];     /* the jobs of each kind, by hand-in */
-    size_t p;                /* P */
-    uint64_t *value;         /* the table */
-    uint8_t *known;          /* which values are worked out */
-    uint8_t *fills;          /* by the part of the entry number that k gives: 0 not known, 1 no, 2 yes */
+    unsigned all[5];     /* K_j */
+    unsigned job[5][60]; /* the jobs of each kind, by hand-in */
+    size_t p;            /* P */
+    uint64_t *value;     /* the table */
+    uint8_t *known;      /* which values are worked out */
+    uint8_t *fills;      /* by the part of the entry number that k gives: 0 not known, 1 no, 2 yes */
 };
 
 static inline size_t ref_k_number(const struct ref_work *w, const unsigned *k)
@@ -172,7 +172,8 @@ static inline int ref_fills(struct ref_work *w, unsigned *k)
 
 static inline uint64_t ref_value(struct ref_work *w, unsigned l, unsigned *k);
 
-/* The least over kinds x with a kept next state of W * gap(L, x) + its value, and the smallest x that reaches it; L may be the start. */
+/* The least over kinds x with a kept next state of W * gap(L, x) + its value, and the smallest x that reaches it; L may
+ * be the start. */
 static inline uint64_t ref_least(struct ref_work *w, unsigned l, unsigned *k, unsigned *next)
 {
     uint64_t best = REF_NOT_KEPT, weight = 0;
@@ -246,7 +247,8 @@ static inline void ref_write_plan(struct ref_work *w, struct ref_answer *a)
 }
 
 /* Plans as 01 says; `table` has room for REF_MOST entries whatever is lent. */
-static inline struct ref_answer ref_plan(const uint8_t *message, size_t length, uint64_t *table, size_t entries, size_t plan_length)
+static inline struct ref_answer ref_plan(const uint8_t *message, size_t length, uint64_t *table, size_t entries,
+                                         size_t plan_length)
 {
     static uint8_t known[REF_MOST], fills[REF_MOST];
     struct ref_answer a = { 0 };

@@ -1,12 +1,34 @@
 /* The figures that source document 000 prints: chapter 4's cases 1 to 9 and chapter 5's cases 1 to 5. */
 #include "lent.h"
 
-#define ALL_PLACES { 1, 1, 1 }, { 60, 60, 60 }
+#define ALL_PLACES \
+    { 1, 1, 1 },   \
+    {              \
+        60, 60, 60 \
+    }
 
 /* Section 4.3's three matrices, below a row 0 that isn't read. */
-#define FIRST_ROWS { { 0 }, { 70, 100, 130 }, { 70, 80, 110 }, { 70, 80, 90 } }
-#define CONTRIVED_ROWS { { 0 }, { 300, 25, 30 }, { 18, 400, 35 }, { 25, 20, 450 } }
-#define JET_ROWS { { 0 }, { 96, 181, 228 }, { 72, 80, 117 }, { 72, 80, 90 } }
+#define FIRST_ROWS                                \
+    {                                             \
+        { 0 }, { 70, 100, 130 }, { 70, 80, 110 }, \
+        {                                         \
+            70, 80, 90                            \
+        }                                         \
+    }
+#define CONTRIVED_ROWS                           \
+    {                                            \
+        { 0 }, { 300, 25, 30 }, { 18, 400, 35 }, \
+        {                                        \
+            25, 20, 450                          \
+        }                                        \
+    }
+#define JET_ROWS                                  \
+    {                                             \
+        { 0 }, { 96, 181, 228 }, { 72, 80, 117 }, \
+        {                                         \
+            72, 80, 90                            \
+        }                                         \
+    }
 
 /* Both measures of an order, and how far it moves a job. */
 struct measures {
@@ -38,9 +60,10 @@ static struct measures plan(const char *what, const struct queue_record *q, uint
     return m;
 }
 
-/* A case of chapter 4, with the source's counts of each category; 0 where it prints no figure, no kinds where it clusters none. */
-static void unconstrained(const char *what, struct queue_record q, unsigned k1, unsigned k2, unsigned k3, const char *kinds, uint64_t last_finish,
-                          uint64_t waiting)
+/* A case of chapter 4, with the source's counts of each category; 0 where it prints no figure, no kinds where it
+ * clusters none. */
+static void unconstrained(const char *what, struct queue_record q, unsigned k1, unsigned k2, unsigned k3,
+                          const char *kinds, uint64_t last_finish, uint64_t waiting)
 {
     uint64_t kept;
     q.kinds = 3;
@@ -58,10 +81,13 @@ static void unconstrained(const char *what, struct queue_record q, unsigned k1, 
         expect(what, m.last_finish, last_finish);
     if (waiting)
         expect(what, m.waiting, waiting);
-    expect("every state is kept", kept, (uint64_t)k1 * (k2 + 1) * (k3 + 1) + (uint64_t)(k1 + 1) * k2 * (k3 + 1) + (uint64_t)(k1 + 1) * (k2 + 1) * k3);
+    expect("every state is kept", kept,
+           (uint64_t)k1 * (k2 + 1) * (k3 + 1) + (uint64_t)(k1 + 1) * k2 * (k3 + 1)
+               + (uint64_t)(k1 + 1) * (k2 + 1) * k3);
 }
 
-#define CASE(start, goal, rows, ...) ((struct queue_record){ 0, goal, 0, start, rows, { __VA_ARGS__ }, ALL_PLACES, 0, { 0 } })
+#define CASE(start, goal, rows, ...) \
+    ((struct queue_record){ 0, goal, 0, start, rows, { __VA_ARGS__ }, ALL_PLACES, 0, { 0 } })
 
 /* 000, section 4.3. Orders are those that its text tells of each figure. */
 static void chapter_4(void)
@@ -84,11 +110,13 @@ static void chapter_4(void)
     unconstrained("case 9", CASE(3, 2, FIRST_ROWS, 110, 110, 130), 5, 5, 5, "333331111122222", 0, 1121500);
 }
 
-/* 000, after case 7: the B747 "at the head of the queue .. 766,350", and "between the B707's and the DC-9's .. 761,600". The allowed places hold
- * each category where the text has it. */
+/* 000, after case 7: the B747 "at the head of the queue .. 766,350", and "between the B707's and the DC-9's ..
+ * 761,600". The allowed places hold each category where the text has it. */
 static void further_analysis_of_case_7(unsigned place, const char *kinds, uint64_t waiting)
 {
-    struct queue_record q = { 3, 2, 60, 2, JET_ROWS, { 300, 150, 100 }, ALL_PLACES, 11, { 1, 2, 3, 2, 3, 2, 3, 2, 3, 2, 3 } };
+    struct queue_record q = { 3,          2,        60,
+                              2,          JET_ROWS, { 300, 150, 100 },
+                              ALL_PLACES, 11,       { 1, 2, 3, 2, 3, 2, 3, 2, 3, 2, 3 } };
     uint64_t kept;
     q.first[0] = q.last[0] = place;
     q.last[1] = 6;
@@ -98,10 +126,13 @@ static void further_analysis_of_case_7(unsigned place, const char *kinds, uint64
     expect("case 7, the B747 moved", m.waiting, waiting);
 }
 
-/* Chapter 5's queue; section 5.4 prints fourteen landings for T = 15, and 01 gives back the lost one, kind 1 in tenth place. */
+/* Chapter 5's queue; section 5.4 prints fourteen landings for T = 15, and 01 gives back the lost one, kind 1 in tenth
+ * place. */
 static struct measures shifted(unsigned goal, unsigned shift, uint64_t *kept)
 {
-    struct queue_record q = { 3, goal, shift, 2, JET_ROWS, { 300, 150, 100 }, ALL_PLACES, 15, { 1, 1, 3, 2, 2, 3, 2, 1, 2, 1, 3, 3, 2, 1, 2 } };
+    struct queue_record q = { 3,          goal,     shift,
+                              2,          JET_ROWS, { 300, 150, 100 },
+                              ALL_PLACES, 15,       { 1, 1, 3, 2, 2, 3, 2, 1, 2, 1, 3, 3, 2, 1, 2 } };
     return plan("chapter 5", &q, kept, 630);
 }
 
