@@ -53,7 +53,8 @@ target/c/bench: bench/bench.c $(ARCHIVE) $(HEADERS)
 
 c-test: $(PROGRAMS) target/c/plan
 	$(CC) $(CFLAGS) -Iinclude -c tests/c/header.c -o target/c/header.o
-	$(CXX) $(CXXFLAGS) -Iinclude -x c++ -c tests/c/header.c -o target/c/header.o
+	@if command -v $(CXX) > /dev/null; then $(CXX) $(CXXFLAGS) -Iinclude -x c++ -c tests/c/header.c -o target/c/header.o; \
+		else echo "no C++ compiler here: the header was not tried as C++"; fi
 	sh tests/c/archive.sh $(ARCHIVE)
 	sh tests/c/example.sh target/c/plan
 	python3 tools/queue_text.py --self-test

@@ -22,7 +22,7 @@ struct plan_record {
     unsigned job[60]; /* the job at each place */
 };
 
-/* A place in a message being written or read; past its end once something did not fit. */
+/* A place in a message being written; past its end once something did not fit. */
 struct message_place {
     uint8_t *bytes;
     size_t length, at;
@@ -86,14 +86,16 @@ static inline uint64_t get_number(const uint8_t *message, size_t length, size_t 
 static inline int read_plan_record(struct plan_record *plan, const uint8_t *message, size_t length)
 {
     size_t at = 2;
+    uint64_t jobs;
     if (length < 2 || message[0] != 0x51 || message[1] != 0x50 || get_number(message, length, &at) != 1)
         return 0;
     plan->goal = (unsigned)get_number(message, length, &at);
     plan->cost = get_number(message, length, &at);
     plan->kept = get_number(message, length, &at);
-    plan->jobs = (unsigned)get_number(message, length, &at);
-    if (plan->jobs > 60)
+    jobs = get_number(message, length, &at);
+    if (jobs > 60)
         return 0;
+    plan->jobs = (unsigned)jobs;
     for (unsigned place = 0; place < plan->jobs; place++)
         plan->job[place] = (unsigned)get_number(message, length, &at);
     return at == length;

@@ -54,17 +54,18 @@ static void null_pointers(void)
            KIPPERTARN_DONE + 256 * 10);
 }
 
-/* Lengths of more than 32 bits, where the system has so much address space to give; only what is needed of it is
- * touched. */
+/* Lengths of more than 32 bits, where the system has so much address space to give. Only the first bytes of it may be
+ * touched, and no call needs more. */
 static int huge_lengths(void)
 {
     static const size_t huge = (size_t)1 << 32;
     uint8_t message[64], plan[KIPPERTARN_PLAN_BYTES];
     uint64_t table[12];
     size_t length = read_example("case-a", message, sizeof message);
-    uint8_t *space = mmap(NULL, 8 * huge, PROT_READ | PROT_WRITE, MAP_PRIVATE | MAP_ANONYMOUS | MAP_NORESERVE, -1, 0);
-    if (space == MAP_FAILED)
+    uint8_t *space = mmap(NULL, 8 * huge, PROT_NONE, MAP_PRIVATE | MAP_ANONYMOUS | MAP_NORESERVE, -1, 0);
+    if (space == MAP_FAILED || mprotect(space, 4096, PROT_READ | PROT_WRITE))
         return 0;
+    watch(message, length);
     expect("a table of 2^32 entries",
            kippertarn_plan(message, length, (uint64_t *)(void *)space, huge, plan, sizeof plan), 256 * 10);
     expect("a plan buffer of 2^32 bytes", kippertarn_plan(message, length, table, 12, space, huge), 256 * 10);

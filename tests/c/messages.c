@@ -21,7 +21,13 @@ static void plan_damaged(const uint8_t *message, size_t length)
 static void compare_message(const char *what, const uint8_t *message, size_t length)
 {
     int as_queue, as_plan;
+    struct plan_record plan;
     compare_checks(what, message, length, &as_queue, &as_plan);
+    if (!read_plan_record(&plan, message, length) && as_plan == 0) {
+        printf("FAILED: the helper does not read an accepted plan\n");
+        print_bytes("plan", message, length);
+        failures++;
+    }
     met_queue[as_queue]++;
     met_plan[as_plan]++;
     messages++;
@@ -88,6 +94,18 @@ static void every_bound(const struct numbers *n, uint8_t second)
     }
 }
 
+/* The helper's message of a record has the same numbers. */
+static void compare_helper(const struct queue_record *q, const struct numbers *n)
+{
+    uint8_t helped[KIPPERTARN_QUEUE_BYTES], message[1024];
+    size_t length = write_queue_record(q, helped, sizeof helped);
+    if (length != write_numbers(n, 0x53, n->count, message, sizeof message) || memcmp(helped, message, length)) {
+        printf("FAILED: the helper writes another message\n");
+        print_bytes("queue", message, length);
+        failures++;
+    }
+}
+
 static void random_bytes(void)
 {
     uint8_t message[260];
@@ -122,6 +140,7 @@ int main(int count, char **words)
         struct numbers queue, plan = plan_numbers();
         random_queue(&q, 60, rounds.done % 4 ? 200 : 1500); /* 60 jobs of 5 kinds need 305 at least */
         queue = queue_numbers(&q);
+        compare_helper(&q, &queue);
         damaged("a damaged queue", queue, 0x53);
         damaged("a damaged plan", plan, 0x50);
         if (rounds.done % 1000 == 0) {
