@@ -90,7 +90,7 @@ static double compare(struct work *w, const struct size *size, unsigned goal, un
         printf("FAILED: the planners differ at %zu entries, goal %u, shift %u\n", w->entries, goal, shift);
         exit(1);
     }
-    times = (unsigned)(400000 / w->entries) + 1;
+    times = (unsigned)(2000000 / w->entries) + 1;
     for (int round = 0; round < 9; round++) {
         double a = time_calls(part, w, times), b = time_calls(by_hand, w, times);
         best_part = a < best_part ? a : best_part;

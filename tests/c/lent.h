@@ -96,6 +96,12 @@ static inline void touched_outside(int signal_number)
     _exit(1);
 }
 
+static inline void tell_of_touches(void)
+{
+    signal(SIGSEGV, touched_outside);
+    signal(SIGBUS, touched_outside);
+}
+
 static inline void watch(const uint8_t *message, size_t length)
 {
     message_at_hand = message;
@@ -179,8 +185,7 @@ static inline void open_rooms(void)
     wanted_table = malloc(8 * REF_MOST);
     if (!wanted_table)
         exit(1);
-    signal(SIGSEGV, touched_outside);
-    signal(SIGBUS, touched_outside);
+    tell_of_touches();
 }
 
 /* Plans a message by the part and by the reference, with a table and a plan buffer of these lengths; answers the

@@ -143,7 +143,7 @@ int main(int count, char **words)
     static uint64_t table[KIPPERTARN_ENTRIES(5, 7, 7, 7, 7, 7)];
     unsigned long without = 0;
     char cases[160];
-    open_rooms();
+    tell_of_touches();
     while (another_round(&rounds)) {
         struct queue_record q;
         uint8_t message[KIPPERTARN_QUEUE_BYTES], plan[KIPPERTARN_PLAN_BYTES];
