@@ -12,8 +12,7 @@ static inline size_t entries_of(const struct queue_record *q)
     return KIPPERTARN_ENTRIES(q->kinds, k[0], k[1], k[2], k[3], k[4]);
 }
 
-/* A permitted order to build windows around, so that tight queues are not all without an order: jobs moved by at most
- * `far`. */
+/* Places of some order that moves no job by more than `far`: allowed places around them leave a tight queue an order. */
 static inline void place_jobs(const struct queue_record *q, unsigned far, unsigned *place)
 {
     for (unsigned i = 0; i < q->jobs; i++)
@@ -162,8 +161,7 @@ static inline void damage_number(struct numbers *n)
     }
 }
 
-/* The numbers as a message. The number at `odd`, if any, gets a group more than it needs, or bit 7 in its last group.
- */
+/* The numbers as a message. The number at `odd`, if any, gets a group more than it needs, or bit 7 in its last one. */
 static inline size_t write_numbers(const struct numbers *n, uint8_t second, size_t odd, uint8_t *message, size_t room)
 {
     struct message_place to = { message, room, 2 };

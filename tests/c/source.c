@@ -1,34 +1,30 @@
 /* The figures that source document 000 prints: chapter 4's cases 1 to 9 and chapter 5's cases 1 to 5. */
 #include "lent.h"
 
-#define ALL_PLACES \
-    { 1, 1, 1 },   \
-    {              \
-        60, 60, 60 \
-    }
+/* Section 4.3's three matrices. */
+static const unsigned first_rows[3][3] = { { 70, 100, 130 }, { 70, 80, 110 }, { 70, 80, 90 } };
+static const unsigned contrived_rows[3][3] = { { 300, 25, 30 }, { 18, 400, 35 }, { 25, 20, 450 } };
+static const unsigned jet_rows[3][3] = { { 96, 181, 228 }, { 72, 80, 117 }, { 72, 80, 90 } };
 
-/* Section 4.3's three matrices, below a row 0 that isn't read. */
-#define FIRST_ROWS                                \
-    {                                             \
-        { 0 }, { 70, 100, 130 }, { 70, 80, 110 }, \
-        {                                         \
-            70, 80, 90                            \
-        }                                         \
+/* A queue of three kinds without jobs yet, all places allowed; row 0 isn't read. */
+static struct queue_record queue_of(unsigned start, unsigned goal, const unsigned rows[3][3], unsigned p1, unsigned p2,
+                                    unsigned p3)
+{
+    struct queue_record q = { .kinds = 3, .goal = goal, .shift = 60, .start = start, .pupils = { p1, p2, p3 } };
+    for (unsigned j = 0; j < 3; j++) {
+        q.first[j] = 1;
+        q.last[j] = 60;
+        for (unsigned i = 0; i < 3; i++)
+            q.gap[i + 1][j] = rows[i][j];
     }
-#define CONTRIVED_ROWS                           \
-    {                                            \
-        { 0 }, { 300, 25, 30 }, { 18, 400, 35 }, \
-        {                                        \
-            25, 20, 450                          \
-        }                                        \
-    }
-#define JET_ROWS                                  \
-    {                                             \
-        { 0 }, { 96, 181, 228 }, { 72, 80, 117 }, \
-        {                                         \
-            72, 80, 90                            \
-        }                                         \
-    }
+    return q;
+}
+
+static void add_jobs(struct queue_record *q, const char *kinds)
+{
+    for (; *kinds; kinds++)
+        q->kind[q->jobs++] = (unsigned)(*kinds - '0');
+}
 
 /* Both measures of an order, and how far it moves a job. */
 struct measures {
@@ -66,8 +62,6 @@ static void unconstrained(const char *what, struct queue_record q, unsigned k1, 
                           const char *kinds, uint64_t last_finish, uint64_t waiting)
 {
     uint64_t kept;
-    q.kinds = 3;
-    q.shift = 60;
     for (unsigned round = 0; round < 5; round++) /* dealt out in turn */
         for (unsigned j = 1; j <= 3; j++)
             if (round < (j == 1 ? k1 : j == 2 ? k2 : k3))
@@ -86,38 +80,34 @@ static void unconstrained(const char *what, struct queue_record q, unsigned k1, 
                + (uint64_t)(k1 + 1) * (k2 + 1) * k3);
 }
 
-#define CASE(start, goal, rows, ...) \
-    ((struct queue_record){ 0, goal, 0, start, rows, { __VA_ARGS__ }, ALL_PLACES, 0, { 0 } })
-
 /* 000, section 4.3. Orders are those that its text tells of each figure. */
 static void chapter_4(void)
 {
     /* "1,220 seconds (the minimum) while the Total Passenger Delay was 1,299,000" */
-    unconstrained("case 1", CASE(2, 1, FIRST_ROWS, 150, 120, 100), 5, 5, 5, "222223333311111", 1220, 1299000);
+    unconstrained("case 1", queue_of(2, 1, first_rows, 150, 120, 100), 5, 5, 5, "222223333311111", 1220, 1299000);
     /* "1,053,500 passenger-seconds (the minimum) .. a longer Last Landing Time (1240 seconds)" */
-    unconstrained("case 2", CASE(2, 2, FIRST_ROWS, 150, 120, 100), 5, 5, 5, "111112222233333", 1240, 1053500);
+    unconstrained("case 2", queue_of(2, 2, first_rows, 150, 120, 100), 5, 5, 5, "111112222233333", 1240, 1053500);
     /* "Last Landing Time is 770 seconds (the minimum) and Total Passenger Delay is 408,300 .. (also the minimum)" */
-    unconstrained("case 3", CASE(1, 1, FIRST_ROWS, 150, 120, 100), 2, 4, 3, "112222333", 770, 408300);
-    unconstrained("case 4", CASE(1, 2, FIRST_ROWS, 150, 120, 100), 2, 4, 3, "112222333", 770, 408300);
+    unconstrained("case 3", queue_of(1, 1, first_rows, 150, 120, 100), 2, 4, 3, "112222333", 770, 408300);
+    unconstrained("case 4", queue_of(1, 2, first_rows, 150, 120, 100), 2, 4, 3, "112222333", 770, 408300);
     /* "the optimal sequence involves no category clustering" */
-    unconstrained("case 5", CASE(2, 2, CONTRIVED_ROWS, 150, 120, 100), 3, 3, 3, NULL, 0, 0);
+    unconstrained("case 5", queue_of(2, 2, contrived_rows, 150, 120, 100), 3, 3, 3, NULL, 0, 0);
     /* "The Total Passenger Delay is 936,750" */
-    unconstrained("case 6", CASE(2, 2, JET_ROWS, 300, 150, 100), 2, 5, 5, "112222233333", 0, 936750);
+    unconstrained("case 6", queue_of(2, 2, jet_rows, 300, 150, 100), 2, 5, 5, "112222233333", 0, 936750);
     /* "One group of 4 planes, which leads the queue, and a single B707 which follows the B747 .. 758550" */
-    unconstrained("case 7", CASE(2, 2, JET_ROWS, 300, 150, 100), 1, 5, 5, "22221233333", 0, 758550);
+    unconstrained("case 7", queue_of(2, 2, jet_rows, 300, 150, 100), 1, 5, 5, "22221233333", 0, 758550);
     /* "1,087,000 and 1,121,500", orders 1-2-3 and 3-1-2 */
-    unconstrained("case 8", CASE(3, 2, FIRST_ROWS, 110, 110, 120), 5, 5, 5, "111112222233333", 0, 1087000);
-    unconstrained("case 9", CASE(3, 2, FIRST_ROWS, 110, 110, 130), 5, 5, 5, "333331111122222", 0, 1121500);
+    unconstrained("case 8", queue_of(3, 2, first_rows, 110, 110, 120), 5, 5, 5, "111112222233333", 0, 1087000);
+    unconstrained("case 9", queue_of(3, 2, first_rows, 110, 110, 130), 5, 5, 5, "333331111122222", 0, 1121500);
 }
 
 /* 000, after case 7: the B747 "at the head of the queue .. 766,350", and "between the B707's and the DC-9's ..
  * 761,600". The allowed places hold each category where the text has it. */
 static void further_analysis_of_case_7(unsigned place, const char *kinds, uint64_t waiting)
 {
-    struct queue_record q = { 3,          2,        60,
-                              2,          JET_ROWS, { 300, 150, 100 },
-                              ALL_PLACES, 11,       { 1, 2, 3, 2, 3, 2, 3, 2, 3, 2, 3 } };
+    struct queue_record q = queue_of(2, 2, jet_rows, 300, 150, 100);
     uint64_t kept;
+    add_jobs(&q, "12323232323");
     q.first[0] = q.last[0] = place;
     q.last[1] = 6;
     q.first[2] = 7;
@@ -130,9 +120,9 @@ static void further_analysis_of_case_7(unsigned place, const char *kinds, uint64
  * place. */
 static struct measures shifted(unsigned goal, unsigned shift, uint64_t *kept)
 {
-    struct queue_record q = { 3,          goal,     shift,
-                              2,          JET_ROWS, { 300, 150, 100 },
-                              ALL_PLACES, 15,       { 1, 1, 3, 2, 2, 3, 2, 1, 2, 1, 3, 3, 2, 1, 2 } };
+    struct queue_record q = queue_of(2, goal, jet_rows, 300, 150, 100);
+    q.shift = shift;
+    add_jobs(&q, "113223212133212");
     return plan("chapter 5", &q, kept, 630);
 }
 
