@@ -12,7 +12,7 @@ static inline size_t entries_of(const struct queue_record *q)
     return KIPPERTARN_ENTRIES(q->kinds, k[0], k[1], k[2], k[3], k[4]);
 }
 
-/* Places of some order that moves no job by more than `far`: allowed places around them leave a tight queue an order. */
+/* Places of an order that moves no job by more than `far`: allowed places around them leave a tight queue an order. */
 static inline void place_jobs(const struct queue_record *q, unsigned far, unsigned *place)
 {
     for (unsigned i = 0; i < q->jobs; i++)
