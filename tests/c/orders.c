@@ -125,8 +125,8 @@ static int plan_is_best(const struct queue_record *q, uint64_t answer, const uin
     try_orders(q, job, 0, &best);
     if (best.cost == UINT64_MAX)
         return answer == 17;
-    if (answer % 256 != 0 || !read_plan_record(&plan, bytes, (size_t)(answer / 256))
-        || kippertarn_check_plan(bytes, (size_t)(answer / 256)))
+    if (answer % 256 != 0 || answer / 256 > KIPPERTARN_PLAN_BYTES || ref_check_plan(bytes, (size_t)(answer / 256))
+        || !read_plan_record(&plan, bytes, (size_t)(answer / 256)))
         return 0;
     if (plan.goal != q->goal || plan.jobs != q->jobs || !order_permitted(q, plan.job)
         || plan.cost != order_cost(q, plan.job))
