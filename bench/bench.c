@@ -21,7 +21,7 @@ struct work {
     uint64_t *table;
 };
 
-enum { ROUNDS = 25 };
+enum { PASSES = 6, ROUNDS = 5 }; /* passes over all sizes, so that a busy moment spoils no line */
 
 /* Processor time in milliseconds, so that other work on the machine counts less. */
 static double now(void)
@@ -83,26 +83,36 @@ static int same_answers(struct work *w)
     return same;
 }
 
-/* Times both in turn, best of several, and prints a line; answers the part's milliseconds. */
-static double compare(struct work *w, const struct size *size, unsigned goal, unsigned shift)
+/* One line of the benchmark. */
+struct row {
+    const struct size *size;
+    unsigned goal, shift;
+    size_t entries;
+    double part, by_hand; /* best milliseconds so far */
+};
+
+/* Times both in turn, and keeps the best of each. */
+static void measure(struct work *w, struct row *r)
 {
-    double best_part = 1e30, best_hand = 1e30, per_entry;
-    unsigned times;
-    make_queue(w, size, goal, shift);
+    make_queue(w, r->size, r->goal, r->shift);
     if (!same_answers(w)) {
-        printf("FAILED: the planners differ at %zu entries, goal %u, shift %u\n", w->entries, goal, shift);
+        printf("FAILED: the planners differ at %zu entries, goal %u, shift %u\n", w->entries, r->goal, r->shift);
         exit(1);
     }
-    times = (unsigned)(400000 / w->entries) + 1;
+    r->entries = w->entries;
     for (int round = 0; round < ROUNDS; round++) {
+        unsigned times = (unsigned)(200000 / w->entries) + 1;
         double a = time_calls(part, w, times), b = time_calls(by_hand, w, times);
-        best_part = a < best_part ? a : best_part;
-        best_hand = b < best_hand ? b : best_hand;
+        r->part = r->part == 0 || a < r->part ? a : r->part;
+        r->by_hand = r->by_hand == 0 || b < r->by_hand ? b : r->by_hand;
     }
-    per_entry = 1e6 / (double)w->entries;
-    printf("%9zu %5u %4u %5u %11.4f %9.2f %11.4f %9.2f %7.2f\n", w->entries, size->kinds, goal, shift, best_part,
-           best_part * per_entry, best_hand, best_hand * per_entry, best_part / best_hand);
-    return best_part;
+}
+
+static void print_row(const struct row *r)
+{
+    double per_entry = 1e6 / (double)r->entries;
+    printf("%9zu %5u %4u %5u %11.4f %9.2f %11.4f %9.2f %7.2f\n", r->entries, r->size->kinds, r->goal, r->shift, r->part,
+           r->part * per_entry, r->by_hand, r->by_hand * per_entry, r->part / r->by_hand);
 }
 
 #define STACK (1024 * 1024)
@@ -153,34 +163,42 @@ static size_t stack_used(struct work *w, int entry)
     return m.used;
 }
 
+/* Chapter 5 of the source, about 1,000, 10,000 and 100,000 entries, and the most there are. */
+static const struct size sizes[] = {
+    { 3, { 5, 6, 4 } },
+    { 3, { 6, 6, 6 } },
+    { 4, { 6, 6, 6, 6 } },
+    { 5, { 7, 6, 6, 6, 6 } },
+    { 5, { 12, 12, 12, 12, 12 } },
+};
+enum { SIZES = sizeof sizes / sizeof *sizes, ROWS = 2 * SIZES + 2 };
+
 int main(void)
 {
-    /* chapter 5 of the source, about 1,000, 10,000 and 100,000 entries, and the most there are */
-    static const struct size sizes[] = { { 3, { 5, 6, 4 } },
-                                         { 3, { 6, 6, 6 } },
-                                         { 4, { 6, 6, 6, 6 } },
-                                         { 5, { 7, 6, 6, 6, 6 } },
-                                         { 5, { 12, 12, 12, 12, 12 } } };
-    enum { SIZES = sizeof sizes / sizeof *sizes };
     static struct work w;
-    double time[SIZES], entries[SIZES];
+    static struct row rows[ROWS];
+    for (int i = 0; i < 2 * SIZES; i++)
+        rows[i] = (struct row){ &sizes[i % SIZES], i < SIZES ? 1 : 2, 60, 0, 0, 0 };
+    rows[ROWS - 2] = (struct row){ &sizes[0], 2, 5, 0, 0, 0 };
+    rows[ROWS - 1] = (struct row){ &sizes[SIZES - 1], 2, 6, 0, 0, 0 };
     w.table = malloc(KIPPERTARN_ENTRIES_MOST * sizeof *w.table);
     if (!w.table)
         return 1;
-    printf("Processor time, best of %d in turn; the table is not cleared between calls.\n", ROUNDS);
+    for (int pass = 0; pass < PASSES; pass++)
+        for (int i = 0; i < ROWS; i++)
+            measure(&w, &rows[i]);
+    printf("Processor time, best of %d in turn; the table is not cleared between calls.\n", PASSES * ROUNDS);
     printf("%9s %5s %4s %5s %11s %9s %11s %9s %7s\n", "entries", "kinds", "goal", "shift", "part ms", "ns/entry",
            "by hand ms", "ns/entry", "ratio");
-    for (unsigned goal = 1; goal <= 2; goal++)
-        for (int i = 0; i < SIZES; i++) {
-            time[i] = compare(&w, &sizes[i], goal, 60);
-            entries[i] = (double)w.entries * sizes[i].kinds;
-        }
-    compare(&w, &sizes[0], 2, 5);
-    compare(&w, &sizes[SIZES - 1], 2, 6);
-    printf("Growth under goal 2, each size over the one before: ");
-    for (int i = 1; i < SIZES; i++)
-        printf("entries x kinds by %.1f, time by %.1f%s", entries[i] / entries[i - 1], time[i] / time[i - 1],
-               i < SIZES - 1 ? "; " : "\n");
+    for (int i = 0; i < ROWS; i++)
+        print_row(&rows[i]);
+    printf("Growth under goal 2, from each size to the next:");
+    for (int i = SIZES + 1; i < 2 * SIZES; i++) {
+        double work = (double)(rows[i].entries * rows[i].size->kinds)
+                      / (double)(rows[i - 1].entries * rows[i - 1].size->kinds);
+        printf(" entries x kinds by %.1f, time by %.1f%s", work, rows[i].part / rows[i - 1].part,
+               i + 1 < 2 * SIZES ? ";" : "\n");
+    }
     make_queue(&w, &sizes[SIZES - 1], 2, 60);
     printf("Bytes of stack: check_queue %zu, check_plan %zu, plan %zu\n", stack_used(&w, 0), stack_used(&w, 1),
            stack_used(&w, 2));
