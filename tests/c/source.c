@@ -1,4 +1,5 @@
-/* The figures that source document 000 prints: chapter 4's cases 1 to 9 and chapter 5's cases 1 to 5. */
+/* Costs, orders and shifts that source document 000 prints: chapter 4's cases 1 to 9 and chapter 5's cases 1 to 5. The
+ * percentages beside them are not repeated here. */
 #include "lent.h"
 
 /* Section 4.3's three matrices. */
@@ -177,5 +178,5 @@ int main(void)
     further_analysis_of_case_7(1, "12222233333", 766350);
     further_analysis_of_case_7(6, "22222133333", 761600);
     chapter_5();
-    return summary("source", "the figures of chapter 4's cases 1 to 9 and of chapter 5");
+    return summary("source", "costs and orders of chapter 4's cases 1 to 9 and of chapter 5");
 }
