@@ -1,9 +1,28 @@
 /* Kippertarn: the best order of a benchtop cutter's queue, as a C part.
  *
- * What a caller lends is as long as it says and is the call's alone until it answers. A null pointer may be lent with length 0.
- * Every call ends, keeps no state between calls and uses no heap. */
+ * A queue message goes in and a plan message comes out, or one refusal. Both messages are bytes, laid out in document
+ * 01 and shown in the README.
+ *
+ * What the caller owes, in every call: what is lent is as long as said; the table is aligned as uint64_t is; all of it
+ * is the call's alone until it answers; and no part that may be written (table, plan) shares a byte with another. A
+ * null pointer may be lent with length 0.
+ *
+ * What is promised: every call ends and answers, for any bytes and any lengths; calls use no heap and keep no state
+ * between them, so they are reentrant and may run at the same time in several threads. Only this is ever written, N x P
+ * being KIPPERTARN_ENTRIES of the queue:
+ *
+ *     R            of the table                 of the plan buffer
+ *     0            its first N x P entries      its first V bytes
+ *     1 to 16      nothing                      nothing
+ *     17           its first N x P entries      nothing
+ *
+ * Entries and bytes behind those keep what they had. */
 #ifndef KIPPERTARN_H
 #define KIPPERTARN_H
+
+#if !defined(__x86_64__) || defined(__ILP32__) || defined(_WIN32)
+#error "Kippertarn's archive is for x86-64 with 64-bit pointers and the System V calling convention"
+#endif
 
 #include <stddef.h>
 #include <stdint.h>
@@ -12,15 +31,66 @@
 extern "C" {
 #endif
 
-/* An answer is R + 256 * V: R is 0 or the refusal, V is 0 for a check. */
+#define KIPPERTARN_VERSION "1.0.0"
+
+#define KIPPERTARN_QUEUE_BYTES 178 /* the longest queue message that is accepted */
+#define KIPPERTARN_PLAN_BYTES 77   /* the longest plan message, and the least plan buffer that may be lent */
+
+/* N x P, the table entries that a queue of n kinds with k1 to k5 jobs each needs: P is the product of all (K_j + 1).
+ * Write 0 for the jobs of kinds past n. A constant where its arguments are, so that it can size an array. */
+#define KIPPERTARN_ENTRIES(n, k1, k2, k3, k4, k5) \
+    ((size_t)(n) * ((size_t)(k1) + 1) * ((size_t)(k2) + 1) * ((size_t)(k3) + 1) * ((size_t)(k4) + 1) \
+     * ((size_t)(k5) + 1))
+
+/* Enough for any queue: 60 jobs of 5 kinds, 12 of each. */
+#define KIPPERTARN_ENTRIES_MOST KIPPERTARN_ENTRIES(5, 12, 12, 12, 12, 12)
+
+/* A table entry whose state is not kept. */
+#define KIPPERTARN_NOT_KEPT UINT64_MAX
+
+/* An answer is R + 256 * V. R is 0 or the refusal. V is the bytes of the written plan where planning gave one, the
+ * needed entries N x P for refusal 16, else 0. */
 #define KIPPERTARN_R(answer) ((unsigned)((answer) & 255u))
 #define KIPPERTARN_V(answer) ((uint64_t)(answer) >> 8)
 
-/* Whether a queue message is accepted (R is 0), or the one refusal of its reader, 1 to 14. */
+/* R, by number. */
+enum kippertarn_refusal {
+    KIPPERTARN_DONE = 0,       /* accepted, or planned */
+    KIPPERTARN_OPENING = 1,    /* first two bytes missing or other */
+    KIPPERTARN_ENDS = 2,       /* bytes end before a number's last group */
+    KIPPERTARN_GROUPS = 3,     /* byte 00 ends a number of several groups, or the last group permitted has bit 7 set */
+    KIPPERTARN_EDITION = 4,    /* edition not 1 */
+    KIPPERTARN_KINDS = 5,      /* N not 1 to 5 */
+    KIPPERTARN_GOAL = 6,       /* goal not 1 or 2 */
+    KIPPERTARN_SHIFT = 7,      /* shift over 60 */
+    KIPPERTARN_START = 8,      /* start over N */
+    KIPPERTARN_GAP = 9,        /* a gap over 65535 */
+    KIPPERTARN_PUPILS = 10,    /* pupils over 1000 */
+    KIPPERTARN_PLACES = 11,    /* allowed places: a_j is 0, b_j < a_j, or b_j over 60 */
+    KIPPERTARN_JOBS = 12,      /* T over 60 */
+    KIPPERTARN_KIND = 13,      /* kind of a job 0 or over N */
+    KIPPERTARN_LEFT_OVER = 14, /* bytes left over after the last number */
+    KIPPERTARN_BUFFER = 15,    /* plan buffer under 77 bytes */
+    KIPPERTARN_TABLE = 16,     /* table under N x P entries; V is N x P */
+    KIPPERTARN_NO_ORDER = 17,  /* no permitted order */
+    KIPPERTARN_JOB = 18        /* a job in a plan 0, over T, or at an earlier place */
+};
+
+/* Whether a queue message is accepted: R is 0, or the one refusal of its reader, 1 to 14. */
 uint64_t kippertarn_check_queue(const uint8_t *message, size_t length);
 
-/* Whether a plan message is accepted (R is 0), or the one refusal of its reader: 1, 2, 3, 4, 6, 12, 18 or 14. */
+/* Whether a plan message is accepted: R is 0, or the one refusal of its reader: 1, 2, 3, 4, 6, 12, 18 or 14. */
 uint64_t kippertarn_check_plan(const uint8_t *message, size_t length);
+
+/* Plans a queue: R is 0 and the plan message stands in the plan buffer, V bytes long; or R is the first of the queue
+ * reader's refusal, 15, 16 and 17 that applies. The table, of `entries` numbers, need not be cleared. After R 0 or 17
+ * entry (L - 1) * P + k_1 + (K_1 + 1) * (k_2 + (K_2 + 1) * (k_3 + ..)) holds the value of state (L; k) if the state is
+ * kept, else KIPPERTARN_NOT_KEPT.
+ *
+ * To ask for the table's size, lend none: with a null table of 0 entries and a plan buffer of 77 bytes an accepted
+ * message is answered 16, V being N x P (at least 1), and nothing is written. */
+uint64_t kippertarn_plan(const uint8_t *message, size_t length, uint64_t *table, size_t entries, uint8_t *plan,
+                         size_t plan_length);
 
 #ifdef __cplusplus
 }

@@ -1,9 +1,11 @@
-/* Readers of queue and plan messages, written from document 01 alone, to compare with. */
+/* Readers of both messages and a planner by the plain recursion, written from document 01 alone, to compare with. */
 #ifndef REFERENCE_H
 #define REFERENCE_H
 
-#include <stddef.h>
-#include <stdint.h>
+#include "../../examples/messages.h"
+
+#include <stdlib.h>
+#include <string.h>
 
 struct cursor {
     const uint8_t *bytes;
@@ -11,7 +13,7 @@ struct cursor {
 };
 
 /* Reads a number of at most `groups` groups: 0, 2 or 3. */
-static int ref_number(struct cursor *c, int groups, uint64_t *value)
+static inline int ref_number(struct cursor *c, int groups, uint64_t *value)
 {
     uint64_t v = 0;
     for (int g = 0; g < groups; g++) {
@@ -30,15 +32,17 @@ static int ref_number(struct cursor *c, int groups, uint64_t *value)
 }
 
 /* Reads a number of at most three groups and judges it. */
-static int ref_field(struct cursor *c, uint64_t low, uint64_t high, int refusal, uint64_t *value)
+static inline int ref_field(struct cursor *c, uint64_t low, uint64_t high, int refusal, unsigned *value)
 {
-    int r = ref_number(c, 3, value);
+    uint64_t v;
+    int r = ref_number(c, 3, &v);
     if (r)
         return r;
-    return *value < low || *value > high ? refusal : 0;
+    *value = (unsigned)v;
+    return v < low || v > high ? refusal : 0;
 }
 
-static int ref_open(struct cursor *c, uint8_t second)
+static inline int ref_open(struct cursor *c, uint8_t second)
 {
     if (c->length < 2 || c->bytes[0] != 0x51 || c->bytes[1] != second)
         return 1;
@@ -46,49 +50,238 @@ static int ref_open(struct cursor *c, uint8_t second)
     return 0;
 }
 
-static int ref_check_queue(const uint8_t *bytes, size_t length)
+static inline int ref_read_queue(const uint8_t *bytes, size_t length, struct queue_record *q)
 {
     struct cursor c = { bytes, length, 0 };
-    uint64_t v, n, a, b, t;
+    unsigned edition;
     int r;
-    if ((r = ref_open(&c, 0x53)) || (r = ref_field(&c, 1, 1, 4, &v)) || (r = ref_field(&c, 1, 5, 5, &n))
-        || (r = ref_field(&c, 1, 2, 6, &v)) || (r = ref_field(&c, 0, 60, 7, &v)) || (r = ref_field(&c, 0, n, 8, &v)))
+    if ((r = ref_open(&c, 0x53)) || (r = ref_field(&c, 1, 1, 4, &edition)) || (r = ref_field(&c, 1, 5, 5, &q->kinds))
+        || (r = ref_field(&c, 1, 2, 6, &q->goal)) || (r = ref_field(&c, 0, 60, 7, &q->shift))
+        || (r = ref_field(&c, 0, q->kinds, 8, &q->start)))
         return r;
-    for (uint64_t i = 0; i < n * (n + 1); i++)
-        if ((r = ref_field(&c, 0, 65535, 9, &v)))
+    for (unsigned i = 0; i <= q->kinds; i++)
+        for (unsigned j = 0; j < q->kinds; j++)
+            if ((r = ref_field(&c, 0, 65535, 9, &q->gap[i][j])))
+                return r;
+    for (unsigned j = 0; j < q->kinds; j++)
+        if ((r = ref_field(&c, 0, 1000, 10, &q->pupils[j])))
             return r;
-    for (uint64_t j = 0; j < n; j++)
-        if ((r = ref_field(&c, 0, 1000, 10, &v)))
-            return r;
-    for (uint64_t j = 0; j < n; j++) {
+    for (unsigned j = 0; j < q->kinds; j++) {
+        uint64_t a, b;
         if ((r = ref_number(&c, 3, &a)) || (r = ref_number(&c, 3, &b)))
             return r;
         if (a == 0 || b < a || b > 60)
             return 11;
+        q->first[j] = (unsigned)a;
+        q->last[j] = (unsigned)b;
     }
-    if ((r = ref_field(&c, 0, 60, 12, &t)))
+    if ((r = ref_field(&c, 0, 60, 12, &q->jobs)))
         return r;
-    for (uint64_t i = 0; i < t; i++)
-        if ((r = ref_field(&c, 1, n, 13, &v)))
+    for (unsigned i = 0; i < q->jobs; i++)
+        if ((r = ref_field(&c, 1, q->kinds, 13, &q->kind[i])))
             return r;
     return c.at < length ? 14 : 0;
 }
 
-static int ref_check_plan(const uint8_t *bytes, size_t length)
+static inline int ref_check_plan(const uint8_t *bytes, size_t length)
 {
     struct cursor c = { bytes, length, 0 };
-    uint64_t v, t;
+    uint64_t number;
+    unsigned v, t;
     int r, seen[61] = { 0 };
     if ((r = ref_open(&c, 0x50)) || (r = ref_field(&c, 1, 1, 4, &v)) || (r = ref_field(&c, 1, 2, 6, &v))
-        || (r = ref_number(&c, 6, &v)) || (r = ref_number(&c, 6, &v)) || (r = ref_field(&c, 0, 60, 12, &t)))
+        || (r = ref_number(&c, 6, &number)) || (r = ref_number(&c, 6, &number)) || (r = ref_field(&c, 0, 60, 12, &t)))
         return r;
-    for (uint64_t i = 0; i < t; i++) {
+    for (unsigned i = 0; i < t; i++) {
         if ((r = ref_field(&c, 1, t, 18, &v)))
             return r;
         if (seen[v]++)
             return 18;
     }
     return c.at < length ? 14 : 0;
+}
+
+/* Job i of the queue at place p: 01's "permitted". */
+static inline int ref_permitted(const struct queue_record *q, unsigned i, unsigned p)
+{
+    unsigned j = q->kind[i - 1];
+    unsigned moved = p > i ? p - i : i - p;
+    return moved <= q->shift && q->first[j - 1] <= p && p <= q->last[j - 1];
+}
+
+/* A planner's answer: R + 256 * V, the table's first `filled` entries, and the plan's bytes. */
+struct ref_answer {
+    uint64_t answer;
+    size_t filled, plan_bytes;
+    uint8_t plan[77];
+    uint64_t cost, kept;
+};
+
+#define REF_NOT_KEPT UINT64_MAX
+#define REF_MOST ((size_t)1856465)
+
+/* What is worked out of one queue. Values and fillings are worked out once each, and remembered. */
+struct ref_work {
+    struct queue_record q;
+    unsigned all[5];     /* K_j */
+    unsigned job[5][60]; /* the jobs of each kind, by hand-in */
+    size_t p;            /* P */
+    uint64_t *value;     /* the table */
+    uint8_t *known;      /* which values are worked out */
+    uint8_t *fills;      /* by the part of the entry number that k gives: 0 not known, 1 no, 2 yes */
+};
+
+static inline size_t ref_k_number(const struct ref_work *w, const unsigned *k)
+{
+    size_t number = 0;
+    for (unsigned j = w->q.kinds; j-- > 0;)
+        number = k[j] + (w->all[j] + 1) * number;
+    return number;
+}
+
+static inline unsigned ref_left(const struct ref_work *w, const unsigned *k)
+{
+    unsigned left = 0;
+    for (unsigned j = 0; j < w->q.kinds; j++)
+        left += k[j];
+    return left;
+}
+
+/* L's job, the (K_L - k_L)th of its kind, is permitted at place T - (k_1 + .. + k_N). */
+static inline int ref_cut_permitted(const struct ref_work *w, unsigned l, const unsigned *k)
+{
+    return ref_permitted(&w->q, w->job[l - 1][w->all[l - 1] - k[l - 1] - 1], w->q.jobs - ref_left(w, k));
+}
+
+/* Whether the jobs left can fill the later places, all permitted, each kind by hand-in. */
+static inline int ref_fills(struct ref_work *w, unsigned *k)
+{
+    size_t number = ref_k_number(w, k);
+    if (!w->fills[number]) {
+        int fills = ref_left(w, k) == 0;
+        for (unsigned x = 1; x <= w->q.kinds && !fills; x++)
+            if (k[x - 1] > 0) {
+                k[x - 1]--;
+                fills = ref_cut_permitted(w, x, k) && ref_fills(w, k);
+                k[x - 1]++;
+            }
+        w->fills[number] = fills ? 2 : 1;
+    }
+    return w->fills[number] == 2;
+}
+
+static inline uint64_t ref_value(struct ref_work *w, unsigned l, unsigned *k);
+
+/* The least over kinds x with a kept next state of W * gap(L, x) + its value, and the smallest x that reaches it; L may
+ * be the start. */
+static inline uint64_t ref_least(struct ref_work *w, unsigned l, unsigned *k, unsigned *next)
+{
+    uint64_t best = REF_NOT_KEPT, weight = 0;
+    *next = 0;
+    for (unsigned j = 0; j < w->q.kinds; j++)
+        weight += (uint64_t)k[j] * w->q.pupils[j];
+    if (w->q.goal == 1)
+        weight = 1;
+    for (unsigned x = 1; x <= w->q.kinds; x++)
+        if (k[x - 1] > 0) {
+            k[x - 1]--;
+            uint64_t rest = ref_value(w, x, k);
+            k[x - 1]++;
+            if (rest != REF_NOT_KEPT && weight * w->q.gap[l][x - 1] + rest < best) {
+                best = weight * w->q.gap[l][x - 1] + rest;
+                *next = x;
+            }
+        }
+    return best;
+}
+
+/* The value of state (L; k), or REF_NOT_KEPT. */
+static inline uint64_t ref_value(struct ref_work *w, unsigned l, unsigned *k)
+{
+    size_t entry = (l - 1) * w->p + ref_k_number(w, k);
+    unsigned next;
+    if (!w->known[entry]) {
+        if (k[l - 1] == w->all[l - 1] || !ref_cut_permitted(w, l, k) || !ref_fills(w, k))
+            w->value[entry] = REF_NOT_KEPT;
+        else
+            w->value[entry] = ref_left(w, k) == 0 ? 0 : ref_least(w, l, k, &next);
+        w->known[entry] = 1;
+    }
+    return w->value[entry];
+}
+
+/* Values of every state with the first `kinds` counts free; answers how many are kept. */
+static inline uint64_t ref_every(struct ref_work *w, unsigned kinds, unsigned *k)
+{
+    uint64_t kept = 0;
+    if (kinds == 0) {
+        for (unsigned l = 1; l <= w->q.kinds; l++)
+            kept += ref_value(w, l, k) != REF_NOT_KEPT;
+        return kept;
+    }
+    for (k[kinds - 1] = 0; k[kinds - 1] <= w->all[kinds - 1]; k[kinds - 1]++)
+        kept += ref_every(w, kinds - 1, k);
+    k[kinds - 1] = 0;
+    return kept;
+}
+
+/* Follows the values from the start and writes the plan. */
+static inline void ref_write_plan(struct ref_work *w, struct ref_answer *a)
+{
+    struct message_place to = { a->plan, sizeof a->plan, 0 };
+    unsigned k[5], last = w->q.start;
+    memcpy(k, w->all, sizeof k);
+    put_number(&to, 0x51);
+    put_number(&to, 0x50);
+    put_number(&to, 1);
+    put_number(&to, w->q.goal);
+    put_number(&to, a->cost);
+    put_number(&to, a->kept);
+    put_number(&to, w->q.jobs);
+    for (unsigned place = 1; place <= w->q.jobs; place++) {
+        ref_least(w, last, k, &last);
+        put_number(&to, w->job[last - 1][w->all[last - 1] - k[last - 1]]);
+        k[last - 1]--;
+    }
+    a->plan_bytes = to.at;
+}
+
+/* Plans as 01 says; `table` has room for REF_MOST entries whatever is lent. */
+static inline struct ref_answer ref_plan(const uint8_t *message, size_t length, uint64_t *table, size_t entries,
+                                         size_t plan_length)
+{
+    static uint8_t known[REF_MOST], fills[REF_MOST];
+    struct ref_answer a = { 0 };
+    struct ref_work w = { .p = 1, .value = table, .known = known, .fills = fills };
+    unsigned k[5] = { 0 }, next;
+    a.answer = (uint64_t)ref_read_queue(message, length, &w.q);
+    if (a.answer == 0 && plan_length < 77)
+        a.answer = 15;
+    if (a.answer)
+        return a;
+    for (unsigned i = 1; i <= w.q.jobs; i++) {
+        unsigned j = w.q.kind[i - 1];
+        w.job[j - 1][w.all[j - 1]++] = i;
+    }
+    for (unsigned j = 0; j < w.q.kinds; j++)
+        w.p *= w.all[j] + 1;
+    if (entries < w.q.kinds * w.p) {
+        a.answer = 16 + 256 * (uint64_t)(w.q.kinds * w.p);
+        return a;
+    }
+    a.filled = w.q.kinds * w.p;
+    memset(known, 0, a.filled);
+    memset(fills, 0, w.p);
+    a.kept = ref_every(&w, w.q.kinds, k);
+    memcpy(k, w.all, sizeof k);
+    a.cost = w.q.jobs == 0 ? 0 : ref_least(&w, w.q.start, k, &next);
+    if (a.cost == REF_NOT_KEPT) {
+        a.answer = 17;
+        return a;
+    }
+    ref_write_plan(&w, &a);
+    a.answer = 256 * (uint64_t)a.plan_bytes;
+    return a;
 }
 
 #endif

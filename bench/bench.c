@@ -1,0 +1,207 @@
+/* Time and stack of the planning call, beside a planner written by hand in C and compiled at -O3: same messages, same
+ * tables, same answers. */
+#define _DEFAULT_SOURCE /* for clock_gettime and threads with a stack of their own */
+
+#include "kippertarn.h"
+#include "plain.h"
+
+#include <pthread.h>
+#include <stdio.h>
+#include <time.h>
+
+typedef uint64_t planner(const uint8_t *, size_t, uint64_t *, size_t, uint8_t *, size_t);
+
+static planner *const part = kippertarn_plan;
+static planner *volatile const by_hand = plain_plan; /* volatile: called like the part, not melted into the loop */
+
+/* A queue to plan, and what it is planned in. */
+struct work {
+    uint8_t message[KIPPERTARN_QUEUE_BYTES], plan[KIPPERTARN_PLAN_BYTES];
+    size_t length, entries;
+    uint64_t *table;
+};
+
+enum { PASSES = 6, ROUNDS = 5 }; /* passes over all sizes, so that a busy moment spoils no line */
+
+/* Processor time in milliseconds, so that other work on the machine counts less. */
+static double now(void)
+{
+    struct timespec t;
+    clock_gettime(CLOCK_THREAD_CPUTIME_ID, &t);
+    return (double)t.tv_sec * 1e3 + (double)t.tv_nsec / 1e6;
+}
+
+/* Milliseconds of one call, over `times` calls. The table is as the last call left it: it is not cleared first. */
+static double time_calls(planner *plan, struct work *w, unsigned times)
+{
+    double start = now();
+    for (unsigned i = 0; i < times; i++)
+        plan(w->message, w->length, w->table, w->entries, w->plan, sizeof w->plan);
+    return (now() - start) / times;
+}
+
+/* A size to measure: so many jobs of each kind, dealt out in turn. */
+struct size {
+    unsigned kinds, jobs[5];
+};
+
+/* Chapter 5's gaps and pupils, with two kinds more. */
+static void make_queue(struct work *w, const struct size *size, unsigned goal, unsigned shift)
+{
+    static const unsigned rows[6][5] = { { 0 },
+                                         { 96, 181, 228, 140, 75 },
+                                         { 72, 80, 117, 101, 90 },
+                                         { 72, 80, 90, 133, 118 },
+                                         { 84, 95, 160, 77, 121 },
+                                         { 110, 70, 99, 150, 85 } };
+    static const unsigned pupils[5] = { 300, 150, 100, 220, 60 };
+    struct queue_record q = { .kinds = size->kinds, .goal = goal, .shift = shift, .start = 2 };
+    memcpy(q.gap, rows, sizeof rows);
+    memcpy(q.pupils, pupils, sizeof pupils);
+    for (unsigned j = 0; j < size->kinds; j++) {
+        q.first[j] = 1;
+        q.last[j] = 60;
+    }
+    for (unsigned round = 0; round < 60; round++)
+        for (unsigned j = 0; j < size->kinds; j++)
+            if (round < size->jobs[j])
+                q.kind[q.jobs++] = j + 1;
+    w->length = write_queue_record(&q, w->message, sizeof w->message);
+    w->entries = (size_t)KIPPERTARN_V(part(w->message, w->length, NULL, 0, w->plan, sizeof w->plan));
+}
+
+/* Both planners leave the same answer, plan and table. */
+static int same_answers(struct work *w)
+{
+    uint64_t *other = malloc(w->entries * sizeof *other);
+    uint8_t plan[KIPPERTARN_PLAN_BYTES];
+    uint64_t answer = part(w->message, w->length, w->table, w->entries, w->plan, sizeof w->plan);
+    int same = other && by_hand(w->message, w->length, other, w->entries, plan, sizeof plan) == answer
+               && memcmp(other, w->table, w->entries * sizeof *other) == 0
+               && memcmp(plan, w->plan, (size_t)KIPPERTARN_V(answer)) == 0;
+    free(other);
+    return same;
+}
+
+/* One line of the benchmark. */
+struct row {
+    const struct size *size;
+    unsigned goal, shift;
+    size_t entries;
+    double part, by_hand; /* best milliseconds so far */
+};
+
+/* Times both in turn, and keeps the best of each. */
+static void measure(struct work *w, struct row *r)
+{
+    make_queue(w, r->size, r->goal, r->shift);
+    if (!same_answers(w)) {
+        printf("FAILED: the planners differ at %zu entries, goal %u, shift %u\n", w->entries, r->goal, r->shift);
+        exit(1);
+    }
+    r->entries = w->entries;
+    for (int round = 0; round < ROUNDS; round++) {
+        unsigned times = (unsigned)(200000 / w->entries) + 1;
+        double a = time_calls(part, w, times), b = time_calls(by_hand, w, times);
+        r->part = r->part == 0 || a < r->part ? a : r->part;
+        r->by_hand = r->by_hand == 0 || b < r->by_hand ? b : r->by_hand;
+    }
+}
+
+static void print_row(const struct row *r)
+{
+    double per_entry = 1e6 / (double)r->entries;
+    printf("%9zu %5u %4u %5u %11.4f %9.2f %11.4f %9.2f %7.2f\n", r->entries, r->size->kinds, r->goal, r->shift, r->part,
+           r->part * per_entry, r->by_hand, r->by_hand * per_entry, r->part / r->by_hand);
+}
+
+#define STACK (1024 * 1024)
+static uint8_t stack[STACK] __attribute__((aligned(4096)));
+
+struct measured {
+    struct work *work;
+    int entry; /* which of the three entries */
+    size_t used;
+};
+
+static void call(const struct measured *m)
+{
+    struct work *w = m->work;
+    if (m->entry == 0)
+        kippertarn_check_queue(w->message, w->length);
+    else if (m->entry == 1)
+        kippertarn_check_plan(w->plan, sizeof w->plan);
+    else
+        part(w->message, w->length, w->table, w->entries, w->plan, sizeof w->plan);
+}
+
+/* Runs in a thread on the stack above: paints what lies well below this frame, calls, and looks how far down the paint
+ * is gone. */
+static void *on_painted_stack(void *of)
+{
+    struct measured *m = of;
+    uint8_t here;
+    size_t top = (size_t)(&here - stack), unpainted = 256, bottom = 0;
+    call(m); /* once before, so that the linker's own work isn't measured */
+    for (size_t i = 0; i < top - unpainted; i++)
+        ((volatile uint8_t *)stack)[i] = 0xA5;
+    call(m);
+    while (bottom < top && stack[bottom] == 0xA5)
+        bottom++;
+    m->used = top - bottom;
+    return NULL;
+}
+
+static size_t stack_used(struct work *w, int entry)
+{
+    struct measured m = { w, entry, 0 };
+    pthread_attr_t attributes;
+    pthread_t thread;
+    if (pthread_attr_init(&attributes) || pthread_attr_setstack(&attributes, stack, STACK)
+        || pthread_create(&thread, &attributes, on_painted_stack, &m) || pthread_join(thread, NULL))
+        return 0;
+    return m.used;
+}
+
+/* Chapter 5 of the source, about 1,000, 10,000 and 100,000 entries, and the most there are. */
+static const struct size sizes[] = {
+    { 3, { 5, 6, 4 } },
+    { 3, { 6, 6, 6 } },
+    { 4, { 6, 6, 6, 6 } },
+    { 5, { 7, 6, 6, 6, 6 } },
+    { 5, { 12, 12, 12, 12, 12 } },
+};
+enum { SIZES = sizeof sizes / sizeof *sizes, ROWS = 2 * SIZES + 2 };
+
+int main(void)
+{
+    static struct work w;
+    static struct row rows[ROWS];
+    for (int i = 0; i < 2 * SIZES; i++)
+        rows[i] = (struct row){ &sizes[i % SIZES], i < SIZES ? 1 : 2, 60, 0, 0, 0 };
+    rows[ROWS - 2] = (struct row){ &sizes[0], 2, 5, 0, 0, 0 };
+    rows[ROWS - 1] = (struct row){ &sizes[SIZES - 1], 2, 6, 0, 0, 0 };
+    w.table = malloc(KIPPERTARN_ENTRIES_MOST * sizeof *w.table);
+    if (!w.table)
+        return 1;
+    for (int pass = 0; pass < PASSES; pass++)
+        for (int i = 0; i < ROWS; i++)
+            measure(&w, &rows[i]);
+    printf("Processor time, best of %d in turn; the table is not cleared between calls.\n", PASSES * ROUNDS);
+    printf("%9s %5s %4s %5s %11s %9s %11s %9s %7s\n", "entries", "kinds", "goal", "shift", "part ms", "ns/entry",
+           "by hand ms", "ns/entry", "ratio");
+    for (int i = 0; i < ROWS; i++)
+        print_row(&rows[i]);
+    printf("Growth under goal 2, from each size to the next:");
+    for (int i = SIZES + 1; i < 2 * SIZES; i++) {
+        double work = (double)(rows[i].entries * rows[i].size->kinds)
+                      / (double)(rows[i - 1].entries * rows[i - 1].size->kinds);
+        printf(" entries x kinds by %.1f, time by %.1f%s", work, rows[i].part / rows[i - 1].part,
+               i + 1 < 2 * SIZES ? ";" : "\n");
+    }
+    make_queue(&w, &sizes[SIZES - 1], 2, 60);
+    printf("Bytes of stack: check_queue %zu, check_plan %zu, plan %zu\n", stack_used(&w, 0), stack_used(&w, 1),
+           stack_used(&w, 2));
+    free(w.table);
+    return 0;
+}

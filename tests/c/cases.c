@@ -1,0 +1,191 @@
+/* Document 01's small queues A to I, byte for byte, the example files that hold them, and each refusal by hand. */
+#include "lent.h"
+
+static const uint8_t queue_a[] = { 0x51, 0x53, 0x01, 0x02, 0x01, 0x01, 0x00, 0x0A, 0x0A, 0x14, 0x32, 0x28,
+                                   0x1E, 0x03, 0x01, 0x01, 0x3C, 0x01, 0x3C, 0x03, 0x01, 0x02, 0x01 };
+static const uint8_t plan_a[] = { 0x51, 0x50, 0x01, 0x01, 0x46, 0x07, 0x03, 0x02, 0x01, 0x03 };
+static const uint8_t plan_b[] = { 0x51, 0x50, 0x01, 0x02, 0xC8, 0x01, 0x07, 0x03, 0x01, 0x03, 0x02 };
+
+enum { GOAL = 4, SHIFT = 5, GAPS = 7, A_1 = 15, A_2 = 17, JOBS = 19 }; /* where A's numbers stand */
+
+struct message {
+    uint8_t bytes[64];
+    size_t length;
+};
+
+static struct message queue_of_a(void)
+{
+    struct message m = { { 0 }, sizeof queue_a };
+    memcpy(m.bytes, queue_a, sizeof queue_a);
+    return m;
+}
+
+/* A with another byte at one place. */
+static struct message a_with(size_t at, uint8_t byte)
+{
+    struct message m = queue_of_a();
+    m.bytes[at] = byte;
+    return m;
+}
+
+/* A with some bytes in place of one. */
+static struct message a_with_bytes(size_t at, const uint8_t *bytes, size_t count)
+{
+    struct message m = queue_of_a();
+    memcpy(m.bytes + at, bytes, count);
+    memcpy(m.bytes + at + count, queue_a + at + 1, sizeof queue_a - at - 1);
+    m.length += count - 1;
+    return m;
+}
+
+/* The example file of a case holds its message. */
+static void expect_file(const char *name, const struct message *m)
+{
+    uint8_t bytes[200];
+    size_t length = read_example(name, bytes, sizeof bytes);
+    expect(name, length == m->length && memcmp(bytes, m->bytes, length) == 0, 1);
+}
+
+/* Plans a case with a table of exactly N x P entries, and holds it to these plan bytes; none stand for 17. */
+static void expect_plan(const char *name, const struct message *m, size_t entries, const uint8_t *plan,
+                        size_t plan_bytes)
+{
+    struct ref_answer a = compare_plan(name, m->bytes, m->length, entries, 77);
+    expect(name, a.answer, plan_bytes ? 256 * plan_bytes : 17);
+    expect(name, a.plan_bytes == plan_bytes && (!plan || memcmp(a.plan, plan, plan_bytes) == 0), 1);
+    a = compare_plan(name, m->bytes, m->length, entries - 1, 77);
+    expect(name, a.answer, 16 + 256 * entries);
+    expect_file(name, m);
+}
+
+static void small_queues(void)
+{
+    struct message a = queue_of_a(), b = a_with(GOAL, 2), c = a_with(A_2, 3), d = a_with(A_1, 2), e = a_with(A_1, 3),
+                   f = a_with(SHIFT, 0), g, h;
+    struct message f_none = f;
+    /* 01 gives these orders and costs; the kept counts of C, D and H are counted by hand. */
+    static const uint8_t plan_c[] = { 0x51, 0x50, 1, 1, 80, 5, 3, 1, 3, 2 },
+                         plan_d[] = { 0x51, 0x50, 1, 1, 70, 6, 3, 2, 1, 3 },
+                         plan_f[] = { 0x51, 0x50, 1, 1, 100, 3, 3, 1, 2, 3 }, plan_g[] = { 0x51, 0x50, 1, 1, 0, 0, 0 },
+                         plan_h[] = { 0x51, 0x50, 1, 1, 0, 4, 2, 2, 1 };
+    expect_plan("case-a", &a, 12, plan_a, sizeof plan_a);
+    expect_plan("case-b", &b, 12, plan_b, sizeof plan_b);
+    expect_plan("case-c", &c, 12, plan_c, sizeof plan_c);
+    expect_plan("case-d", &d, 12, plan_d, sizeof plan_d);
+    expect_plan("case-e", &e, 12, NULL, 0);
+    expect_plan("case-f", &f, 12, plan_f, sizeof plan_f);
+    f_none.bytes[A_2] = 3;
+    expect_plan("case-f-none", &f_none, 12, NULL, 0);
+    g = a_with(JOBS, 0);
+    g.length = JOBS + 1;
+    expect_plan("case-g", &g, 2, plan_g, sizeof plan_g);
+    h = a_with(JOBS, 2);
+    memset(h.bytes + GAPS, 0, 6);
+    h.bytes[JOBS + 1] = 2;
+    h.bytes[JOBS + 2] = 1;
+    h.length = JOBS + 3;
+    expect_plan("case-h", &h, 8, plan_h, sizeof plan_h);
+}
+
+static void expect_refusal(const char *what, struct message m, int refusal)
+{
+    int as_queue, as_plan;
+    compare_checks(what, m.bytes, m.length, &as_queue, &as_plan);
+    expect(what, (uint64_t)as_queue, (uint64_t)refusal);
+    compare_plan(what, m.bytes, m.length, 12, 77);
+}
+
+#define WITH(at, ...) a_with_bytes(at, (const uint8_t[]){ __VA_ARGS__ }, sizeof(const uint8_t[]){ __VA_ARGS__ })
+
+static void refusals(void)
+{
+    for (size_t cut = 0; cut < sizeof queue_a; cut++) {
+        struct message m = queue_of_a();
+        m.length = cut;
+        expect_refusal("A cut off", m, cut < 2 ? 1 : 2);
+    }
+    expect_refusal("I: 00 is 0", WITH(GAPS, 0x00), 0);
+    expect_refusal("I: 80 00", WITH(GAPS, 0x80, 0x00), 3);
+    expect_refusal("I: FF FF 03", WITH(GAPS, 0xFF, 0xFF, 0x03), 0);
+    expect_refusal("I: 80 80 04 as a gap", WITH(GAPS, 0x80, 0x80, 0x04), 9);
+    expect_refusal("80 80 00", WITH(GAPS, 0x80, 0x80, 0x00), 3);
+    expect_refusal("80 80 80", WITH(GAPS, 0x80, 0x80, 0x80), 3);
+    expect_refusal("I: 81 at the end", (struct message){ { 0x51, 0x53, 0x81 }, 3 }, 2);
+    expect_refusal("80 80 80 at the end", (struct message){ { 0x51, 0x53, 0x80, 0x80, 0x80 }, 5 }, 3);
+    expect_refusal("edition 2", a_with(2, 2), 4);
+    expect_refusal("edition 1 in two groups", WITH(2, 0x81, 0x00), 3);
+    expect_refusal("no kinds", a_with(3, 0), 5);
+    expect_refusal("six kinds", a_with(3, 6), 5);
+    expect_refusal("goal 0", a_with(GOAL, 0), 6);
+    expect_refusal("goal 3", a_with(GOAL, 3), 6);
+    expect_refusal("shift 60", a_with(SHIFT, 60), 0);
+    expect_refusal("shift 61", a_with(SHIFT, 61), 7);
+    expect_refusal("start 2 of 2", a_with(6, 2), 0);
+    expect_refusal("start 3 of 2", a_with(6, 3), 8);
+    expect_refusal("1000 pupils", WITH(13, 0xE8, 0x07), 0);
+    expect_refusal("1001 pupils", WITH(13, 0xE9, 0x07), 10);
+    expect_refusal("first place 0", a_with(A_1, 0), 11);
+    expect_refusal("first place 61", a_with(A_1, 61), 11);
+    expect_refusal("last place 61", a_with(A_1 + 1, 61), 11);
+    expect_refusal("first place 0, last place in two groups",
+                   (struct message){ { 0x51, 0x53, 1, 1, 1, 0, 0, 0, 0, 0, 0, 0x80, 0x00 }, 13 }, 3);
+    expect_refusal("first place 0 and no more", (struct message){ { 0x51, 0x53, 1, 1, 1, 0, 0, 0, 0, 0, 0 }, 11 }, 2);
+    expect_refusal("61 jobs and no more", (struct message){ { 0x51, 0x53, 1, 1, 1, 0, 0, 0, 0, 0, 1, 1, 61 }, 13 }, 12);
+    expect_refusal("kind 0", a_with(JOBS + 1, 0), 13);
+    expect_refusal("kind 3 of 2", a_with(JOBS + 1, 3), 13);
+    expect_refusal("a byte left over", WITH(JOBS + 3, 0x01, 0x01), 14);
+    expect_refusal("a plan's opening", a_with(1, 0x50), 1);
+    for (size_t cut = 0; cut < sizeof plan_a; cut++)
+        expect("A's plan cut off", kippertarn_check_plan(plan_a, cut), cut < 2 ? 1 : 2);
+    expect("A's plan", kippertarn_check_plan(plan_a, sizeof plan_a), 0);
+    expect("B's plan", kippertarn_check_plan(plan_b, sizeof plan_b), 0);
+    expect("a job twice", kippertarn_check_plan((const uint8_t[]){ 0x51, 0x50, 1, 1, 0, 0, 2, 1, 1 }, 9), 18);
+    expect("job 0", kippertarn_check_plan((const uint8_t[]){ 0x51, 0x50, 1, 1, 0, 0, 2, 0 }, 8), 18);
+    expect("job 5 of 2 and no more", kippertarn_check_plan((const uint8_t[]){ 0x51, 0x50, 1, 1, 0, 0, 2, 5 }, 8), 18);
+    expect("a cost of 2^42 - 1, no jobs",
+           kippertarn_check_plan((const uint8_t[]){ 0x51, 0x50, 1, 1, 255, 255, 255, 255, 255, 127, 0, 0 }, 12), 0);
+    expect("a cost of seven groups",
+           kippertarn_check_plan((const uint8_t[]){ 0x51, 0x50, 1, 1, 128, 128, 128, 128, 128, 128, 1, 0, 0 }, 13), 3);
+}
+
+/* Bounds of the messages' lengths that 01 states, reached. */
+static void longest(void)
+{
+    struct queue_record q = { .kinds = 5, .goal = 1, .jobs = 60 };
+    uint8_t message[4000] = { 0 }, plan[KIPPERTARN_PLAN_BYTES] = { 0x51, 0x50, 1,   2,   255, 255, 255, 255, 255,
+                                                                   127,  255,  255, 255, 255, 255, 127, 60 };
+    for (unsigned j = 0; j < 5; j++) {
+        q.pupils[j] = 1000;
+        q.first[j] = q.last[j] = 60;
+        for (unsigned i = 0; i <= 5; i++)
+            q.gap[i][j] = 65535;
+    }
+    for (unsigned i = 0; i < 60; i++) {
+        q.kind[i] = 1 + i % 5;
+        plan[17 + i] = (uint8_t)(i + 1);
+    }
+    expect("the longest queue", write_queue_record(&q, message, sizeof message), KIPPERTARN_QUEUE_BYTES);
+    expect("the longest queue", kippertarn_check_queue(message, KIPPERTARN_QUEUE_BYTES), 0);
+    expect("the longest queue in too little room", write_queue_record(&q, message, KIPPERTARN_QUEUE_BYTES - 1), 0);
+    expect("and a byte", kippertarn_check_queue(message, KIPPERTARN_QUEUE_BYTES + 1), 14);
+    expect("and many bytes", kippertarn_check_queue(message, sizeof message), 14);
+    memcpy(message + 177, (const uint8_t[]){ 0x81, 0x80, 0x01 }, 3); /* a reader looks at 180 bytes at most */
+    expect("its last kind in three bytes", kippertarn_check_queue(message, 180), 13);
+    expect("its last kind cut off", kippertarn_check_queue(message, 179), 2);
+    message[179] = 0x80;
+    expect("its last kind without an end", kippertarn_check_queue(message, 180), 3);
+    message[179] = 0;
+    expect("its last kind ended by 00", kippertarn_check_queue(message, 180), 3);
+    expect("the longest plan", kippertarn_check_plan(plan, KIPPERTARN_PLAN_BYTES), 0);
+    q.jobs = 61;
+    expect("61 jobs have no room in a record", write_queue_record(&q, message, sizeof message), 0);
+}
+
+int main(void)
+{
+    open_rooms();
+    small_queues();
+    refusals();
+    longest();
+    return summary("cases", "01's queues A to I and the refusals by hand");
+}

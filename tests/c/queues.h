@@ -1,0 +1,181 @@
+/* Queues by chance: as records that are accepted, and as lists of numbers that can be damaged. */
+#ifndef QUEUES_H
+#define QUEUES_H
+
+#include "lent.h"
+
+static inline size_t entries_of(const struct queue_record *q)
+{
+    size_t k[5] = { 0 };
+    for (unsigned i = 0; i < q->jobs; i++)
+        k[q->kind[i] - 1]++;
+    return KIPPERTARN_ENTRIES(q->kinds, k[0], k[1], k[2], k[3], k[4]);
+}
+
+/* Places of an order that moves no job by more than `far`: allowed places around them leave a tight queue an order. */
+static inline void place_jobs(const struct queue_record *q, unsigned far, unsigned *place)
+{
+    for (unsigned i = 0; i < q->jobs; i++)
+        place[i] = i + 1;
+    for (unsigned swaps = below(2 * q->jobs + 1); swaps > 0; swaps--) {
+        unsigned i = below(q->jobs), j = below(q->jobs), to_i = place[j], to_j = place[i];
+        unsigned i_moved = to_i > i + 1 ? to_i - i - 1 : i + 1 - to_i,
+                 j_moved = to_j > j + 1 ? to_j - j - 1 : j + 1 - to_j;
+        if (i_moved <= far && j_moved <= far) {
+            place[i] = to_i;
+            place[j] = to_j;
+        }
+    }
+}
+
+/* Allowed places: all, around the places of some order, or anywhere. */
+static inline void choose_places(struct queue_record *q)
+{
+    unsigned place[60], how = below(6);
+    place_jobs(q, q->shift, place);
+    for (unsigned j = 0; j < q->kinds; j++) {
+        unsigned low = 61, high = 0;
+        for (unsigned i = 0; i < q->jobs; i++)
+            if (q->kind[i] == j + 1) {
+                low = place[i] < low ? place[i] : low;
+                high = place[i] > high ? place[i] : high;
+            }
+        q->first[j] = 1;
+        q->last[j] = 60;
+        if (how >= 2 && below(3)) { /* tight, or one off */
+            q->first[j] = low > 60 ? between(1, 60) : low > 1 ? low - (unsigned)(below(4) == 0) : 1;
+            q->last[j] = high == 0 ? 60 : high < 60 ? high + (unsigned)(below(4) == 0) : 60;
+            if (how == 5 && below(8) == 0 && q->last[j] > q->first[j])
+                q->last[j]--;
+            if (how == 5 && below(8) == 0 && q->first[j] < q->last[j])
+                q->first[j]++;
+        } else if (how == 1) {
+            q->first[j] = between(1, q->jobs + 1 > 60 ? 60 : q->jobs + 1);
+            q->last[j] = between(q->first[j], 60);
+        }
+    }
+}
+
+/* An accepted queue of at most `most_jobs` jobs that needs at most `most_entries`. */
+static inline void random_queue(struct queue_record *q, unsigned most_jobs, size_t most_entries)
+{
+    unsigned gaps = below(5), pupils = below(4), lean, usual;
+    static const unsigned widest[5] = { 65535, 300, 3, 1, 0 }, most_pupils[4] = { 1000, 40, 2, 0 };
+    memset(q, 0, sizeof *q);
+    q->kinds = between(1, 5);
+    q->goal = between(1, 2);
+    q->start = between(0, q->kinds);
+    for (unsigned i = 0; i <= q->kinds; i++)
+        for (unsigned j = 0; j < q->kinds; j++)
+            q->gap[i][j] = below(8) ? between(0, widest[gaps]) : 0;
+    for (unsigned j = 0; j < q->kinds; j++)
+        q->pupils[j] = between(0, most_pupils[pupils]);
+    lean = below(3); /* most jobs of one kind, for long queues with small tables */
+    usual = between(1, q->kinds);
+    do {
+        q->jobs = between(0, lean || most_jobs < 12 ? most_jobs : 12);
+        for (unsigned i = 0; i < q->jobs; i++)
+            q->kind[i] = lean && below(8 * lean) ? usual : between(1, q->kinds);
+    } while (entries_of(q) > most_entries);
+    switch (below(4)) {
+    case 0: q->shift = 60; break;
+    case 1: q->shift = between(0, 60); break;
+    case 2: q->shift = between(0, q->jobs / 2); break;
+    default: q->shift = between(0, 4); break;
+    }
+    choose_places(q);
+}
+
+/* A queue message as the list of its numbers, each with the range it is judged by. */
+struct numbers {
+    size_t count;
+    uint64_t value[120];
+    unsigned low[120], high[120];
+};
+
+static inline void add_number(struct numbers *n, uint64_t value, unsigned low, unsigned high)
+{
+    n->value[n->count] = value;
+    n->low[n->count] = low;
+    n->high[n->count++] = high;
+}
+
+static inline struct numbers queue_numbers(const struct queue_record *q)
+{
+    struct numbers n = { 0 };
+    add_number(&n, 1, 1, 1);
+    add_number(&n, q->kinds, 1, 5);
+    add_number(&n, q->goal, 1, 2);
+    add_number(&n, q->shift, 0, 60);
+    add_number(&n, q->start, 0, q->kinds);
+    for (unsigned i = 0; i <= q->kinds; i++)
+        for (unsigned j = 0; j < q->kinds; j++)
+            add_number(&n, q->gap[i][j], 0, 65535);
+    for (unsigned j = 0; j < q->kinds; j++)
+        add_number(&n, q->pupils[j], 0, 1000);
+    for (unsigned j = 0; j < q->kinds; j++) {
+        add_number(&n, q->first[j], 1, q->last[j]);
+        add_number(&n, q->last[j], q->first[j], 60);
+    }
+    add_number(&n, q->jobs, 0, 60);
+    for (unsigned i = 0; i < q->jobs; i++)
+        add_number(&n, q->kind[i], 1, q->kinds);
+    return n;
+}
+
+/* A plan message by chance, as the list of its numbers; the ranges of cost and kept count are six groups. */
+static inline struct numbers plan_numbers(void)
+{
+    struct numbers n = { 0 };
+    unsigned jobs = below(2) ? between(0, 5) : between(0, 60), job[60];
+    uint64_t six_groups = ((uint64_t)1 << 42) - 1;
+    add_number(&n, 1, 1, 1);
+    add_number(&n, between(1, 2), 1, 2);
+    add_number(&n, below(4) ? chance() & six_groups >> below(42) : six_groups, 0, 0);
+    add_number(&n, below(4) ? chance() & six_groups >> below(42) : six_groups, 0, 0);
+    add_number(&n, jobs, 0, 60);
+    for (unsigned i = 0; i < jobs; i++) {
+        unsigned k = below(i + 1);
+        job[i] = i + 1;
+        job[i] = job[k];
+        job[k] = i + 1;
+    }
+    for (unsigned i = 0; i < jobs; i++)
+        add_number(&n, job[i], 1, jobs);
+    return n;
+}
+
+/* Sets one number to a bound of its range, just outside it, or anything. */
+static inline void damage_number(struct numbers *n)
+{
+    size_t at = below((unsigned)n->count);
+    switch (below(8)) {
+    case 0:
+    case 1: n->value[at] = (uint64_t)n->high[at] + 1; break;
+    case 2: n->value[at] = n->low[at] ? n->low[at] - 1 : 0; break;
+    case 3: n->value[at] = n->low[at]; break;
+    case 4: n->value[at] = n->high[at]; break;
+    case 5: n->value[at] = ((uint64_t)1 << (7 * between(1, 6))) - below(2); break;
+    case 6: n->value[at] = n->value[below((unsigned)n->count)]; break;
+    default: n->value[at] = chance() >> (below(60) + 4); break;
+    }
+}
+
+/* The numbers as a message. The number at `odd`, if any, gets a group more than it needs, or bit 7 in its last one. */
+static inline size_t write_numbers(const struct numbers *n, uint8_t second, size_t odd, uint8_t *message, size_t room)
+{
+    struct message_place to = { message, room, 2 };
+    message[0] = 0x51;
+    message[1] = second;
+    for (size_t i = 0; i < n->count; i++) {
+        put_number(&to, n->value[i]);
+        if (i == odd) {
+            message[to.at - 1] |= 128;
+            if (below(3))
+                message[to.at++] = below(3) ? 0 : 128;
+        }
+    }
+    return to.at;
+}
+
+#endif
