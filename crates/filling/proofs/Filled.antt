@@ -33,10 +33,11 @@ use Rattle.states.specs.Steps.{next}
 use Rattle.states.proofs.Stepping.{next-digits, digits-zero}
 use Rattle.table.specs.Entries.{stored, loaded, candidate, permittedAt, filling, Ready}
 use Rattle.filling.specs.declared.Shape.{Shape}
-use Rattle.filling.specs.Prepared.{Prepared, Earlier, Arrays, weightOf, entryFrom, Staged}
+use Rattle.setup.specs.Prepared.{Prepared}
+use Rattle.filling.specs.Staged.{Earlier, Arrays, weightOf, entryFrom, Staged}
 use Rattle.filling.proofs.Values.{left-at, next-at, candidate-is, filling-is}
 use Rattle.filling.proofs.Staging.{sum-ext}
-use Rattle.filling.proofs.Preparing.{counts-all, counts-few, entries-fit}
+use Rattle.setup.proofs.Preparing.{counts-all, counts-few, entries-fit}
 
 -- the lengths of a record's arrays
 pub record Sized (q : Queue) : Type 0 where

@@ -1,4 +1,3 @@
 pub mod Values
-pub mod Preparing
 pub mod Staging
 pub mod Filled

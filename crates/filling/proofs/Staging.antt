@@ -9,7 +9,7 @@ use lib.Dec.{eqb}
 use Rattle.sequencing.specs.Lists.{at, sum, sumBelow}
 use Rattle.table.specs.Entries.{permittedAt, filling}
 use Rattle.filling.specs.declared.Shape.{Shape}
-use Rattle.filling.specs.Prepared.{Arrays, kOf, weightOf, entryFrom}
+use Rattle.filling.specs.Staged.{Arrays, kOf, weightOf, entryFrom}
 
 marked : (t : Bool) → eqb (cond t 1 0) 1 ≡ t
 marked true = refl

@@ -31,7 +31,8 @@ use Rattle.problem.specs.Problem.{allowed, problem}
 use Rattle.problem.proofs.Rule.{kind-is}
 use Rattle.problem.proofs.Queues.{value-fits}
 use Rattle.table.specs.Entries.{stored, loaded, candidate, permittedAt, filling}
-use Rattle.filling.specs.Prepared.{Prepared, Earlier}
+use Rattle.setup.specs.Prepared.{Prepared}
+use Rattle.filling.specs.Staged.{Earlier}
 
 -- ---- the least of what agrees
 

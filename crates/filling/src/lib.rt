@@ -1,30 +1,20 @@
 // Filling the table of a queue: every state's value, and how many states are feasible.
 use queue::Queue;
+use setup::Setup;
 use table::Stage;
 ghost use mathlib.Core.Path.{_≡_};
 ghost use mathlib.Core.Bool.{cond};
 ghost use Prim.Native.Nat.{ℕ, _+_, _-_, _*_, _≤_, _<_};
-ghost use lib.Dec.{ltb, eqb};
-ghost use lib.ListN.{length, getD, take};
+ghost use lib.Dec.{ltb};
+ghost use lib.ListN.{length, getD};
 ghost use Rattle.queue.specs.Record.{Valid};
-ghost use Rattle.sequencing.specs.Lists.{weigh, sumBelow};
+ghost use Rattle.sequencing.specs.Lists.{sumBelow};
 ghost use Rattle.sequencing.specs.Entries.{entries, entry};
 ghost use Rattle.sequencing.specs.Counts.{found, feasibleStates};
 ghost use Rattle.problem.specs.Problem.{problem};
 ghost use Rattle.table.specs.Entries.{stored};
-ghost use Rattle.filling.specs.Prepared.{Prepared, entryFrom, Staged};
-
-// What is prepared once a call.
-pub struct Setup {
-    // K_1 .. K_N.
-    pub counts: [u32; 5],
-    // The jobs of each kind by hand-in, sixty places a kind.
-    pub jobs: [u32; 300],
-    // What one job of each kind counts for in an entry number.
-    pub strides: [usize; 5],
-    // 01's P.
-    pub block: usize,
-}
+ghost use Rattle.setup.specs.Prepared.{Prepared};
+ghost use Rattle.filling.specs.Staged.{entryFrom, Staged};
 
 // The numbers of a queue and of one k.
 pub struct Shape {
@@ -35,44 +25,6 @@ pub struct Shape {
     pub goal: u32,
     pub max_shift: u32,
     pub jobs: u32,
-}
-
-pub fn prepare(queue: Queue) -> Setup
-    requires { ⌜ Valid queue ⌝ }
-    ensures { λ r. ⌜ Prepared (problem queue) (r .counts) (r .jobs) (r .strides) (r .block) ⌝ }
-{
-    let mut counts = [0u32; 5];
-    let mut jobs = [0u32; 300];
-    let mut strides = [0usize; 5];
-    states::list_jobs(queue, &mut counts, &mut jobs);
-    let n = queue.kinds as usize;
-    let block = states::set_strides(&counts, n, &mut strides);
-    Setup {
-        counts,
-        jobs,
-        strides,
-        block,
-    }
-}
-
-// The entries that the table needs: N times P.
-pub fn needed_entries(queue: Queue) -> u64
-    requires { ⌜ Valid queue ⌝ }
-    ensures { λ r. ⌜ r ≡ entries (problem queue) ⌝ }
-{
-    let setup = prepare(queue);
-    queue.kinds as u64 * setup.block as u64
-}
-
-// 01's W: 1 under goal 1, the weight of the jobs left under goal 2.
-pub fn stage_weight(goal: u32, left: &[u32], weights: &[u32], kinds: usize) -> u64
-    requires { ⌜ (kinds ≤ 5) × ((length (now left) ≡ 5) × ((length (now weights) ≡ 5) × (((j : ℕ) → j < kinds → getD (now left) j 0 ≤ 60) × ((j : ℕ) → j < kinds → getD (now weights) j 0 ≤ 1000)))) ⌝ }
-    ensures { λ r. ⌜ r ≡ cond (eqb goal 1) 1 (weigh (λ j. getD (now (weights .entry)) (j - 1) 0) (take kinds (now (left .entry)))) ⌝ }
-{
-    if goal == 1 {
-        return 1;
-    }
-    states::weight_left(left, weights, kinds)
 }
 
 // Stores the entries of all states with one k; returns how many of them hold a value.
@@ -96,7 +48,7 @@ fn fill_index(
 {
     let kinds = shape.kinds;
     let remaining = states::total_left(left, kinds);
-    let weight = stage_weight(shape.goal, left, weights, kinds);
+    let weight = states::stage_weight(shape.goal, left, weights, kinds);
     let place = shape.jobs - remaining;
     let mut marks = [0u32; 5];
     marks::mark_permitted(

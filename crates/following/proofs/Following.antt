@@ -27,8 +27,8 @@ use Rattle.sequencing.proofs.Recursion.{value-some, choice-some}
 use Rattle.sequencing.proofs.Vectors.{complete-sum, at-complete}
 use Rattle.problem.specs.Problem.{problem}
 use Rattle.problem.proofs.Rule.{jobs-is, proper}
-use Rattle.filling.specs.Prepared.{Prepared}
-use Rattle.filling.proofs.Preparing.{counts-few}
+use Rattle.setup.specs.Prepared.{Prepared}
+use Rattle.setup.proofs.Preparing.{counts-few}
 use Rattle.filling.proofs.Values.{at-minus, left-at, next-at}
 use Rattle.solving.proofs.Start.{last-in, last-is, start-here}
 

@@ -1,6 +1,6 @@
 // Following a filled table: the order that reaches the best cost.
-use filling::Setup;
 use queue::Queue;
+use setup::Setup;
 ghost use mathlib.Core.Path.{_≡_};
 ghost use mathlib.Core.Option.{none};
 ghost use Prim.Native.Nat.{_+_, _-_, _*_, _≤_, _<_};
@@ -10,7 +10,8 @@ ghost use Rattle.fields.specs.Lists.{filled};
 ghost use Rattle.sequencing.specs.Recursion.{planCost, planOrder};
 ghost use Rattle.sequencing.specs.Entries.{block, entries};
 ghost use Rattle.problem.specs.Problem.{problem};
-ghost use Rattle.filling.specs.Prepared.{Prepared, Earlier};
+ghost use Rattle.setup.specs.Prepared.{Prepared};
+ghost use Rattle.filling.specs.Staged.{Earlier};
 
 // The next job of a kind (from 0) by hand-in; one fewer is left.
 fn take_job(left: &mut [u32], counts: &[u32], jobs: &[u32], kind: usize) -> u32

@@ -80,7 +80,13 @@ fn read_start(bytes: &[u8]) -> Field
         return Field::Refused(Reason::Opening);
     }
     match fields_reader::read_field(bytes, 2, 1, 1, Reason::Edition) {
-        Field::Value { value: _, next } => fields_reader::read_field(bytes, next, 1, 2, Reason::Goal),
+        Field::Value { value: _, next } => fields_reader::read_field(
+            bytes,
+            next,
+            1,
+            2,
+            Reason::Goal,
+        ),
         Field::Refused(why) => Field::Refused(why),
     }
 }

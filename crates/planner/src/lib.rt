@@ -30,7 +30,7 @@ fn plan_queue(queue: Queue, table: &mut [u64], buffer: &mut [u8]) -> Answer
     ensures { λ r. ⌜ r ≡ answerOf (endingOf queue (length (now (table .entry))) (length (now (buffer .entry)))) ⌝ }
     ensures { λ _. ⌜ Leaves (endingOf queue (length (now (table .entry))) (length (now (buffer .entry)))) (now (table .entry)) (now (buffer .entry)) (now (table .exit)) (now (buffer .exit)) ⌝ }
 {
-    let needed = filling::needed_entries(queue);
+    let needed = setup::needed_entries(queue);
     if buffer.len() < 77 {
         return Answer::Refused(Reason::Buffer);
     }

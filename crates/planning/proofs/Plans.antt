@@ -23,7 +23,7 @@ use Rattle.sequencing.proofs.Best.{plan-kinds}
 use Rattle.problem.specs.Problem.{problem}
 use Rattle.problem.proofs.Rule.{jobs-is, proper}
 use Rattle.problem.proofs.Queues.{planned, none-cheaper, ties, cost-fits, counted}
-use Rattle.filling.proofs.Preparing.{entries-small}
+use Rattle.setup.proofs.Preparing.{entries-small}
 use Rattle.filling.proofs.Filled.{sum-most, found-most}
 use Rattle.planning.specs.Planning.{bestPlan}
 use Rattle.planning.specs.BestOrder.{BestPlan}

@@ -19,7 +19,8 @@ use Rattle.sequencing.specs.Recursion.{W, value, choice}
 use Rattle.sequencing.specs.Entries.{digits, block, entries, entry, entryKind, entryLeft}
 use Rattle.problem.specs.Problem.{problem}
 use Rattle.table.specs.Entries.{stored, candidate, Ready}
-use Rattle.filling.specs.Prepared.{Prepared, Earlier, weightOf, Staged}
+use Rattle.setup.specs.Prepared.{Prepared}
+use Rattle.filling.specs.Staged.{Earlier, weightOf, Staged}
 use Rattle.filling.proofs.Values.{least-ext, arg-ext, candidate-is}
 use Rattle.filling.proofs.Filled.{Sized, arraysOf, shapeOf, countAt, Filled, ready, weight-is, staged}
 

@@ -12,8 +12,8 @@ use Rattle.sequencing.specs.States.{all}
 use Rattle.sequencing.specs.Entries.{size, index, digits, block}
 use Rattle.sequencing.proofs.Radix.{size-pos, digits-index}
 use Rattle.problem.specs.Problem.{problem}
-use Rattle.filling.specs.Prepared.{Prepared}
-use Rattle.filling.proofs.Preparing.{counts-all}
+use Rattle.setup.specs.Prepared.{Prepared}
+use Rattle.setup.proofs.Preparing.{counts-all}
 
 index-last : (cs : List ℕ) → suc (index cs cs) ≡ size cs
 unfolding index size

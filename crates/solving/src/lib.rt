@@ -1,6 +1,6 @@
 // Solving a queue: the table filled, and the best cost.
-use filling::Setup;
 use queue::Queue;
+use setup::Setup;
 use table::Least;
 use table::Stage;
 ghost use mathlib.Core.Path.{_≡_};
@@ -17,7 +17,8 @@ ghost use Rattle.sequencing.specs.Entries.{digits, block, entries, entry};
 ghost use Rattle.sequencing.specs.Counts.{feasibleStates};
 ghost use Rattle.problem.specs.Problem.{problem};
 ghost use Rattle.table.specs.Entries.{stored};
-ghost use Rattle.filling.specs.Prepared.{Prepared, Earlier};
+ghost use Rattle.setup.specs.Prepared.{Prepared};
+ghost use Rattle.filling.specs.Staged.{Earlier};
 
 // The best cost, NONE where no order is permitted, and the feasible states; what was prepared, for following the order.
 pub struct Solution {
@@ -43,7 +44,7 @@ pub fn best_next(
     let gaps = queue.gaps;
     let weights = queue.weights;
     let strides = setup.strides;
-    let weight = filling::stage_weight(queue.goal, left, &weights, kinds);
+    let weight = states::stage_weight(queue.goal, left, &weights, kinds);
     let stage = Stage {
         kinds,
         block: setup.block,
@@ -84,7 +85,7 @@ pub fn solve(queue: Queue, table: &mut [u64]) -> Solution
     ensures { λ r. ⌜ r .«feasible_states» ≡ feasibleStates (problem queue) ⌝ }
     ensures { λ r. ⌜ Prepared (problem queue) (r .setup .counts) (r .setup .jobs) (r .setup .strides) (r .setup .block) ⌝ }
 {
-    let setup = filling::prepare(queue);
+    let setup = setup::prepare(queue);
     let feasible_states = filling::fill(queue, setup, table);
     let cost = start_cost(queue, setup, table);
     Solution {

@@ -1,3 +1,2 @@
 pub mod Stepping
 pub mod Fronts
-pub mod Listing

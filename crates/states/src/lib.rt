@@ -1,47 +1,11 @@
-// The counts of jobs left: preparing them for a queue, and stepping through all of them in the table's order.
-use queue::Queue;
+// The counts of jobs left: their sums, and stepping through all of them in the table's order.
 ghost use mathlib.Core.Path.{_≡_};
-ghost use Prim.Native.Nat.{ℕ, _+_, _-_, _*_, _≤_, _<_};
-ghost use lib.ListN.{length, getD, take, drop, replicate};
-ghost use Rattle.queue.specs.Record.{Valid};
-ghost use Rattle.sequencing.specs.Lists.{at, sum, weigh};
-ghost use Rattle.sequencing.specs.Entries.{size, stride};
-ghost use Rattle.problem.specs.Problem.{problem};
-ghost use Rattle.states.specs.Listed.{Listed};
+ghost use mathlib.Core.Bool.{cond};
+ghost use Prim.Native.Nat.{ℕ, _-_, _≤_, _<_};
+ghost use lib.Dec.{eqb};
+ghost use lib.ListN.{length, getD, take, drop};
+ghost use Rattle.sequencing.specs.Lists.{sum, weigh};
 ghost use Rattle.states.specs.Steps.{next};
-
-// Lists the jobs of each kind by hand-in, sixty places a kind, and counts them.
-pub fn list_jobs(queue: Queue, counts: &mut [u32], jobs: &mut [u32])
-    requires { ⌜ Valid queue × ((now counts ≡ replicate 5 0) × (length (now jobs) ≡ 300)) ⌝ }
-    ensures { λ _. ⌜ Listed (problem queue) (now (counts .exit)) (now (jobs .exit)) ⌝ }
-{
-    let job_kinds = queue.job_kinds;
-    let total = queue.jobs as usize;
-    let mut i: usize = 0;
-    while i < total {
-        let kind = job_kinds[i] as usize - 1;
-        let n = counts[kind];
-        jobs[60 * kind + n as usize] = i as u32 + 1;
-        counts[kind] = n + 1;
-        i = i + 1;
-    }
-}
-
-// What one job of each kind counts for in an entry number; returns 01's P.
-pub fn set_strides(counts: &[u32], kinds: usize, strides: &mut [usize]) -> usize
-    requires { ⌜ (kinds ≤ 5) × ((length (now counts) ≡ 5) × ((length (now strides) ≡ 5) × ((j : ℕ) → j < kinds → getD (now counts) j 0 ≤ 60))) ⌝ }
-    ensures { λ r. ⌜ r ≡ size (take kinds (now (counts .entry))) ⌝ }
-    ensures { λ _. ⌜ ((x : ℕ) → 1 ≤ x → x ≤ kinds → at (now (strides .exit)) x ≡ stride (take kinds (now (counts .entry))) x) ⌝ }
-{
-    let mut product: usize = 1;
-    let mut j: usize = 0;
-    while j < kinds {
-        strides[j] = product;
-        product = product * (counts[j] as usize + 1);
-        j = j + 1;
-    }
-    product
-}
 
 // The jobs left of all kinds.
 pub fn total_left(left: &[u32], kinds: usize) -> u32
@@ -58,7 +22,7 @@ pub fn total_left(left: &[u32], kinds: usize) -> u32
 }
 
 // The weight of the jobs left: the sum of k_j times w_j.
-pub fn weight_left(left: &[u32], weights: &[u32], kinds: usize) -> u64
+fn weight_left(left: &[u32], weights: &[u32], kinds: usize) -> u64
     requires { ⌜ (kinds ≤ 5) × ((length (now left) ≡ 5) × ((length (now weights) ≡ 5) × (((j : ℕ) → j < kinds → getD (now left) j 0 ≤ 60) × ((j : ℕ) → j < kinds → getD (now weights) j 0 ≤ 1000)))) ⌝ }
     ensures { λ r. ⌜ r ≡ weigh (λ j. getD (now (weights .entry)) (j - 1) 0) (take kinds (now (left .entry))) ⌝ }
 {
@@ -69,6 +33,17 @@ pub fn weight_left(left: &[u32], weights: &[u32], kinds: usize) -> u64
         j = j + 1;
     }
     total
+}
+
+// 01's W: 1 under goal 1, the weight of the jobs left under goal 2.
+pub fn stage_weight(goal: u32, left: &[u32], weights: &[u32], kinds: usize) -> u64
+    requires { ⌜ (kinds ≤ 5) × ((length (now left) ≡ 5) × ((length (now weights) ≡ 5) × (((j : ℕ) → j < kinds → getD (now left) j 0 ≤ 60) × ((j : ℕ) → j < kinds → getD (now weights) j 0 ≤ 1000)))) ⌝ }
+    ensures { λ r. ⌜ r ≡ cond (eqb goal 1) 1 (weigh (λ j. getD (now (weights .entry)) (j - 1) 0) (take kinds (now (left .entry)))) ⌝ }
+{
+    if goal == 1 {
+        return 1;
+    }
+    weight_left(left, weights, kinds)
 }
 
 // Steps to the counts whose index is one more.

@@ -3,7 +3,7 @@
 use Prim.Native.Nat.{_-_}
 use mathlib.Core.Path.{sym, _∙_}
 use native.Mathlib.Omega.{arith}
-use Rattle.filling.proofs.Preparing.{block-fits}
+use Rattle.setup.proofs.Preparing.{block-fits}
 use Rattle.filling.proofs.Filled.{Sized, Filled, filled-none, staged, filled-more, count-fits, filled-table, filled-count}
 use borrow.Author.Needs.{needs}
 use Rattle.filling.proofs.fill.Statement.{statement}

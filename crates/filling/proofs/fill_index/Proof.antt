@@ -6,7 +6,7 @@ use native.Mathlib.Omega.{arith}
 use borrow.Author.Tests.{eq-eqb}
 use Rattle.table.specs.Entries.{stored}
 use Rattle.sequencing.specs.Counts.{found}
-use Rattle.filling.specs.Prepared.{Arrays}
+use Rattle.filling.specs.Staged.{Arrays}
 use Rattle.filling.proofs.Staging.{sum-ext, stage-entry}
 use borrow.Author.Needs.{needs}
 use Rattle.filling.proofs.fill_index.Statement.{statement}

@@ -1,11 +1,11 @@
--- `states::list_jobs` meets its contract: `Listing` is the invariant; the jobs left fall.
+-- `setup::list_jobs` meets its contract: `Listing` is the invariant; the jobs left fall.
 -- Assumes nothing.
 use Prim.Native.Nat.{_-_}
 use native.Mathlib.Omega.{arith}
-use Rattle.states.proofs.Listing.{Listing, listing-none, NextJob, listing-next, listing-more, listing-done}
+use Rattle.setup.proofs.Listing.{Listing, listing-none, NextJob, listing-next, listing-more, listing-done}
 use borrow.Author.Needs.{needs}
-use Rattle.states.proofs.list_jobs.Statement.{statement}
-use Rattle.states.proofs.list_jobs.Tie as tie
+use Rattle.setup.proofs.list_jobs.Statement.{statement}
+use Rattle.setup.proofs.list_jobs.Tie as tie
 
 abbrev Inv-loop : tie.InvT-loop
 Inv-loop counts₀ jobs₀ job-kinds total i₀ counts jobs i = Listing job-kinds total counts jobs i

@@ -16,8 +16,8 @@ use Rattle.sequencing.proofs.AllJobs.{at-all, length-all, sum-all}
 use Rattle.sequencing.proofs.Vectors.{at-sum}
 use Rattle.problem.specs.Problem.{problem}
 use Rattle.problem.proofs.Rule.{proper, few-jobs}
-use Rattle.states.specs.Listed.{Listed}
-use Rattle.filling.specs.Prepared.{Prepared}
+use Rattle.setup.specs.Listed.{Listed}
+use Rattle.setup.specs.Prepared.{Prepared}
 
 module _ (q : Queue) (v : Valid q) (counts jobs : List ℕ) (listed : Listed (problem q) counts jobs) (long : length counts ≡ 5) where
   pub counts-all : take (q .kinds) counts ≡ all (problem q)

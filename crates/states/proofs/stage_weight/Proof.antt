@@ -1,10 +1,10 @@
--- `filling::stage_weight` meets its contract.
+-- `states::stage_weight` meets its contract.
 -- Assumes nothing.
 use mathlib.Core.Path.{_∙_, sym}
 use borrow.Author.Tests.{eq-eqb, ne-eqb}
 use borrow.Author.Needs.{needs}
-use Rattle.filling.proofs.stage_weight.Statement.{statement}
-use Rattle.filling.proofs.stage_weight.Tie as tie
+use Rattle.states.proofs.stage_weight.Statement.{statement}
+use Rattle.states.proofs.stage_weight.Tie as tie
 
 returns : tie.Need-returns
 returns c = rw (eq-eqb _ _ (c .if1 .taken))

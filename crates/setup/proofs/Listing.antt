@@ -19,7 +19,7 @@ use Rattle.queue.specs.declared.Queue.{Queue}
 use Rattle.queue.specs.Record.{Valid}
 use Rattle.problem.specs.Problem.{problem}
 use Rattle.problem.proofs.Rule.{jobs-is, kind-is}
-use Rattle.states.specs.Listed.{Listed}
+use Rattle.setup.specs.Listed.{Listed}
 
 -- ---- one job more
 

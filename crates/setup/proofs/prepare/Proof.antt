@@ -1,10 +1,10 @@
--- `filling::prepare` meets its contract: the jobs are listed, then the strides multiplied out.
+-- `setup::prepare` meets its contract: the jobs are listed, then the strides multiplied out.
 -- Assumes nothing.
 use mathlib.Core.Path.{refl}
-use Rattle.filling.proofs.Preparing.{counts-few, prepared}
+use Rattle.setup.proofs.Preparing.{counts-few, prepared}
 use borrow.Author.Needs.{needs}
-use Rattle.filling.proofs.prepare.Statement.{statement}
-use Rattle.filling.proofs.prepare.Tie as tie
+use Rattle.setup.proofs.prepare.Statement.{statement}
+use Rattle.setup.proofs.prepare.Tie as tie
 
 set-strides-requires : tie.Need-set-strides-requires
 set-strides-requires c κs =

@@ -1,4 +1,4 @@
--- What is prepared once a call, and what the table holds while it fills.
+-- What the table holds while it fills.
 use Prim.Native.Nat.{ℕ, _+_, _-_, _*_, _≤_, _<_}
 use mathlib.Core.Bool.{cond}
 use mathlib.Core.Option.{Option}
@@ -6,23 +6,13 @@ use mathlib.Core.Path.{_≡_}
 use lib.Dec.{eqb}
 use mathlib.Core.List.{List}
 use lib.ListN.{length, getD, take}
-use Rattle.sequencing.specs.Lists.{at, sum, weigh}
+use Rattle.sequencing.specs.Lists.{sum, weigh}
 use Rattle.sequencing.specs.Problem.{Problem}
 use Rattle.sequencing.specs.States.{all}
 use Rattle.sequencing.specs.Recursion.{value}
-use Rattle.sequencing.specs.Entries.{stride, digits, block}
-use Rattle.states.specs.Listed.{Listed}
+use Rattle.sequencing.specs.Entries.{digits, block}
 use Rattle.table.specs.Entries.{stored, permittedAt, filling, Ready}
 use Rattle.filling.specs.declared.Shape.{Shape}
-
--- the counts and jobs of each kind, what a job of each kind counts for in an entry number, and 01's P
-pub record Prepared (P : Problem) (counts jobs strides : List ℕ) (size : ℕ) : Type 0 where
-  pub listed : Listed P counts jobs
-  pub counts-long : length counts ≡ 5
-  pub jobs-long : length jobs ≡ 300
-  pub strides-long : length strides ≡ 5
-  pub strides-are : (x : ℕ) → 1 ≤ x → x ≤ P .N → at strides x ≡ stride (all P) x
-  pub size-is : size ≡ block P
 
 -- the entries of the first i indices are filled
 abbrev pub Earlier : Problem → List ℕ → ℕ → Type 0

@@ -1,11 +1,11 @@
--- `states::set_strides` meets its contract: `Striding` is the invariant; the kinds left fall.
+-- `setup::set_strides` meets its contract: `Striding` is the invariant; the kinds left fall.
 -- Assumes nothing.
 use Prim.Native.Nat.{_-_}
 use native.Mathlib.Omega.{arith}
 use Rattle.states.proofs.Fronts.{Striding, striding-none, product-fits, striding-more, striding-done, front-done}
 use borrow.Author.Needs.{needs}
-use Rattle.states.proofs.set_strides.Statement.{statement}
-use Rattle.states.proofs.set_strides.Tie as tie
+use Rattle.setup.proofs.set_strides.Statement.{statement}
+use Rattle.setup.proofs.set_strides.Tie as tie
 
 abbrev Inv-loop : tie.InvT-loop
 Inv-loop counts kinds strides₀ product₀ j₀ strides product j = Striding counts kinds strides₀ strides product j

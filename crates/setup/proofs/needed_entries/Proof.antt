@@ -1,11 +1,11 @@
--- `filling::needed_entries` meets its contract.
+-- `setup::needed_entries` meets its contract.
 -- Assumes nothing.
 use Prim.Native.Nat.{_*_}
 use mathlib.Core.Path.{ap}
-use Rattle.filling.proofs.Preparing.{entries-fit}
+use Rattle.setup.proofs.Preparing.{entries-fit}
 use borrow.Author.Needs.{needs}
-use Rattle.filling.proofs.needed_entries.Statement.{statement}
-use Rattle.filling.proofs.needed_entries.Tie as tie
+use Rattle.setup.proofs.needed_entries.Statement.{statement}
+use Rattle.setup.proofs.needed_entries.Tie as tie
 
 mul-result : tie.Need-mul-result
 mul-result c = record { fits = rw (c .before .prepare .ensures .size-is) (entries-fit _ (c .before .before .pre)) }
