@@ -1,0 +1,69 @@
+// Plans the example of the source's chapter 5 at shifts 0, 5 and 14 under both goals; prints each plan's cost, kept count and order.
+use libc::STDOUT_FILENO;
+use plan::Plan;
+use refusal::Answer;
+use refusal::Verdict;
+
+// The queue message of a goal and a shift: 01's numbers of chapter 5, goal and shift at bytes 4 and 5.
+fn message_of(goal: u8, shift: u8) -> [u8; 48] {
+    let mut message =
+        *b"\x51\x53\x01\x03\x01\x00\x02\x00\x00\x00\x60\xb5\x01\xe4\x01\x48\x50\x75\x48\x50\x5a\xac\x02\x96\x01\x64\x01\x3c\x01\x3c\x01\x3c\x0f\x01\x01\x03\x02\x02\x03\x02\x01\x02\x01\x03\x03\x02\x01\x02";
+    message[4] = goal;
+    message[5] = shift;
+    message
+}
+
+// A job, after a space.
+fn print_job(job: u32) {
+    io::write_all(STDOUT_FILENO, b" ");
+    io::print_decimal(STDOUT_FILENO, job as u64);
+}
+
+// The job at each place.
+fn print_jobs(plan: Plan) {
+    let order = plan.order;
+    let mut place: u32 = 0;
+    while place < plan.jobs {
+        place = place + 1;
+        print_job(finishing::job_at(order, place));
+    }
+}
+
+// The plan that was written.
+fn print_plan(bytes: &[u8]) {
+    let made = plan_reader::read_plan(bytes);
+    let verdict = made.verdict;
+    match verdict {
+        Verdict::Refused(why) => printing::print_refusal(why),
+        Verdict::Accepted => {
+            let plan = made.plan;
+            printing::print_cost(plan.cost, plan.feasible_states);
+            io::write_all(STDOUT_FILENO, b"order");
+            print_jobs(plan);
+            io::write_all(STDOUT_FILENO, b"\n");
+        }
+    }
+}
+
+// Plans at one goal and shift, in a table of the 630 entries that the example needs.
+fn run(goal: u8, shift: u8) {
+    let message = message_of(goal, shift);
+    let mut table = [0u64; 630];
+    let mut buffer = [0u8; 77];
+    io::write_all(STDOUT_FILENO, b"shift ");
+    printing::print_number(shift as u64, b" goal ");
+    printing::print_number(goal as u64, b"\n");
+    match planner::plan(&message, &mut table, &mut buffer) {
+        Answer::Refused(why) => printing::print_refusal(why),
+        Answer::Planned(n) => print_plan(printing::written(&buffer, n)),
+    }
+}
+
+fn main() {
+    run(1, 0);
+    run(2, 0);
+    run(1, 5);
+    run(2, 5);
+    run(1, 14);
+    run(2, 14);
+}
