@@ -51,12 +51,17 @@ target/c/bench: bench/bench.c $(ARCHIVE) $(HEADERS)
 	@mkdir -p target/c
 	$(CC) $(CFLAGS) -O3 -pthread -Iinclude $< $(ARCHIVE) -o $@
 
-c-test: $(PROGRAMS) target/c/plan
+# the program plan_queue, proved and compiled
+target/bin/plan_queue: archive
+	rt check plan_queue
+
+c-test: $(PROGRAMS) target/c/plan target/bin/plan_queue
 	$(CC) $(CFLAGS) -Iinclude -c tests/c/header.c -o target/c/header.o
 	@if command -v $(CXX) > /dev/null; then $(CXX) $(CXXFLAGS) -Iinclude -x c++ -c tests/c/header.c -o target/c/header.o; \
 		else echo "no C++ compiler here: the header was not tried as C++"; fi
 	sh tests/c/archive.sh $(ARCHIVE)
 	sh tests/c/example.sh target/c/plan
+	sh tests/c/program.sh target/bin/plan_queue
 	python3 tools/queue_text.py --self-test
 	@set -e; for test in $(PROGRAMS); do $$test; done
 

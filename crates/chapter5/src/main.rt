@@ -2,6 +2,7 @@
 use libc::STDOUT_FILENO;
 use plan::Plan;
 use refusal::Answer;
+use refusal::Reason;
 use refusal::Verdict;
 
 // The queue message of a goal and a shift: 01's numbers of chapter 5, goal and shift at bytes 4 and 5.
@@ -11,6 +12,12 @@ fn message_of(goal: u8, shift: u8) -> [u8; 48] {
     message[4] = goal;
     message[5] = shift;
     message
+}
+
+// A number, and what separates it from what follows.
+fn print_number(value: u64, end: &[u8]) {
+    io::print_decimal(STDOUT_FILENO, value);
+    io::write_all(STDOUT_FILENO, end);
 }
 
 // A job, after a space.
@@ -29,15 +36,23 @@ fn print_jobs(plan: Plan) {
     }
 }
 
+// A refusal's number: none is expected.
+fn print_refusal(reason: Reason) {
+    io::write_all(STDOUT_FILENO, b"refused ");
+    print_number(refusal::reason_number(reason), b"\n");
+}
+
 // The plan that was written.
 fn print_plan(bytes: &[u8]) {
     let made = plan_reader::read_plan(bytes);
     let verdict = made.verdict;
     match verdict {
-        Verdict::Refused(why) => printing::print_refusal(why),
+        Verdict::Refused(why) => print_refusal(why),
         Verdict::Accepted => {
             let plan = made.plan;
-            printing::print_cost(plan.cost, plan.feasible_states);
+            io::write_all(STDOUT_FILENO, b"cost ");
+            print_number(plan.cost, b" kept ");
+            print_number(plan.feasible_states, b"\n");
             io::write_all(STDOUT_FILENO, b"order");
             print_jobs(plan);
             io::write_all(STDOUT_FILENO, b"\n");
@@ -51,11 +66,11 @@ fn run(goal: u8, shift: u8) {
     let mut table = [0u64; 630];
     let mut buffer = [0u8; 77];
     io::write_all(STDOUT_FILENO, b"shift ");
-    printing::print_number(shift as u64, b" goal ");
-    printing::print_number(goal as u64, b"\n");
+    print_number(shift as u64, b" goal ");
+    print_number(goal as u64, b"\n");
     match planner::plan(&message, &mut table, &mut buffer) {
-        Answer::Refused(why) => printing::print_refusal(why),
-        Answer::Planned(n) => print_plan(printing::written(&buffer, n)),
+        Answer::Refused(why) => print_refusal(why),
+        Answer::Planned(n) => print_plan(finishing::written(&buffer, n)),
     }
 }
 

@@ -1,9 +1,10 @@
-// What the program prints for a place of a plan: its job, the kind and the finish.
+// What the programs print: a plan's bytes, and for a place its job, the kind and the finish.
 use plan::Plan;
 use queue::Queue;
 use units::Seconds;
 ghost use mathlib.Core.Path.{_≡_};
 ghost use Prim.Native.Nat.{_+_, _-_, _*_, _^_, _<_};
+ghost use lib.ListN.{take};
 ghost use Rattle.queue.specs.Record.{gap as gapIn};
 ghost use Rattle.sequencing.specs.Lists.{at};
 ghost use Rattle.sequencing.specs.Problem.{kind as kindIn};
@@ -107,5 +108,16 @@ pub fn line_at(queue: Queue, plan: Plan, place: u32) -> Line
         job,
         kind: kind_of(queue, job),
         finish: finish_at(queue, order, place),
+    }
+}
+
+// The bytes of a plan that was written at a buffer's start.
+pub fn written(buffer: &[u8], bytes: usize) -> &[u8]
+    ensures { λ r. ⌜ now r ≡ take bytes (now (buffer .entry)) ⌝ }
+{
+    if bytes <= buffer.len() {
+        &buffer[..bytes]
+    } else {
+        buffer
     }
 }

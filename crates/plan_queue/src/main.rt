@@ -1,15 +1,60 @@
 // Plans the queue message on standard input, and prints the plan place by place, or the refusal.
+use finishing::Line;
+use libc::STDOUT_FILENO;
 use plan::Plan;
 use queue::Queue;
 use refusal::Answer;
+use refusal::Group;
+use refusal::Reason;
 use refusal::Verdict;
+
+// A number, and what separates it from what follows.
+fn print_number(value: u64, end: &[u8]) {
+    io::print_decimal(STDOUT_FILENO, value);
+    io::write_all(STDOUT_FILENO, end);
+}
+
+// The plan's cost and 01's kept count.
+fn print_cost(cost: u64, feasible_states: u64) {
+    io::write_all(STDOUT_FILENO, b"cost ");
+    print_number(cost, b" kept ");
+    print_number(feasible_states, b"\n");
+}
+
+// One place of a plan.
+fn print_line(line: Line) {
+    let finish = line.finish;
+    print_number(line.place as u64, b" ");
+    print_number(line.job as u64, b" ");
+    print_number(line.kind as u64, b" ");
+    print_number(finish.0, b"\n");
+}
+
+// The word of a group, which ends its line.
+fn print_group(group: Group) {
+    match group {
+        Group::Message => io::write_all(STDOUT_FILENO, b"message\n"),
+        Group::Contents => io::write_all(STDOUT_FILENO, b"contents\n"),
+        Group::Room => io::write_all(STDOUT_FILENO, b"room\n"),
+        Group::Order => io::write_all(STDOUT_FILENO, b"order\n"),
+        Group::Unprinted => io::write_all(STDOUT_FILENO, b"\n"),
+    }
+    ;
+}
+
+// A refusal's number and group.
+fn print_refusal(reason: Reason) {
+    io::write_all(STDOUT_FILENO, b"refused ");
+    print_number(refusal::reason_number(reason), b" ");
+    print_group(refusal::reason_group(reason));
+}
 
 // A line for each place.
 fn print_places(queue: Queue, plan: Plan) {
     let mut place: u32 = 0;
     while place < plan.jobs {
         place = place + 1;
-        printing::print_line(finishing::line_at(queue, plan, place));
+        print_line(finishing::line_at(queue, plan, place));
     }
 }
 
@@ -18,11 +63,11 @@ fn print_plan(message: &[u8], bytes: &[u8]) {
     let made = plan_reader::read_plan(bytes);
     let verdict = made.verdict;
     match verdict {
-        Verdict::Refused(why) => printing::print_refusal(why),
+        Verdict::Refused(why) => print_refusal(why),
         Verdict::Accepted => {
             let plan = made.plan;
             let reading = queue_reader::read_queue(message);
-            printing::print_cost(plan.cost, plan.feasible_states);
+            print_cost(plan.cost, plan.feasible_states);
             print_places(reading.queue, plan);
         }
     }
@@ -35,7 +80,7 @@ fn main() {
     let mut buffer = [0u8; 77];
     let n = io::read_full(libc::STDIN_FILENO, &mut input);
     match planner::plan(&input[..n], &mut table, &mut buffer) {
-        Answer::Refused(why) => printing::print_refusal(why),
-        Answer::Planned(bytes) => print_plan(&input[..n], printing::written(&buffer, bytes)),
+        Answer::Refused(why) => print_refusal(why),
+        Answer::Planned(bytes) => print_plan(&input[..n], finishing::written(&buffer, bytes)),
     }
 }

@@ -7,7 +7,7 @@ use mathlib.Core.Path.{_≡_, refl, sym, ap, _∙_}
 use native.Mathlib.Nat.{zero-add}
 use native.Mathlib.Omega.{arith}
 use lib.ListN.{length, getD, take, drop}
-use lib.Seq.{sets, sets-eq, length-sets, take-append-seam}
+use lib.Seq.{sets, sets-eq, length-sets, take-append-seam, drop-append-seam}
 use borrow.Author.Tests.{lt-ltb, le-ltb}
 use Rattle.refusal.specs.declared.Verdict.the-variants.{Accepted}
 use Rattle.refusal.specs.Answers.{answerNumber}
@@ -45,11 +45,16 @@ module _ (q : Queue) (table table′ : List ℕ) (filled : (n : ℕ) → getD ta
 
 -- ---- the written plan
 
--- a message written from the first byte on stands there
-written : (s buffer : List ℕ) → length s ≤ length buffer → take (length s) (sets buffer 0 s) ≡ s
-written s buffer h =
-    ap (take (length s)) (sets-eq s buffer 0 (omega arith) ∙ ap (λ (n : ℕ). s ++ drop n buffer) (zero-add (length s)))
-    ∙ take-append-seam s (drop (length s) buffer)
+-- a message written from the first byte on stands there, and bytes behind it are as before
+module _ (s buffer : List ℕ) (h : length s ≤ length buffer) where
+  parts : sets buffer 0 s ≡ s ++ drop (length s) buffer
+  parts = sets-eq s buffer 0 (omega arith) ∙ ap (λ (n : ℕ). s ++ drop n buffer) (zero-add (length s))
+
+  written : take (length s) (sets buffer 0 s) ≡ s
+  written = ap (take (length s)) parts ∙ take-append-seam s (drop (length s) buffer)
+
+  behind : drop (length s) (sets buffer 0 s) ≡ drop (length s) buffer
+  behind = ap (drop (length s)) parts ∙ drop-append-seam s (drop (length s) buffer)
 
 module _ (q : Queue) (v : Valid q) (table buffer table′ buffer′ : List ℕ) where
   abbrev P : Problem
@@ -60,6 +65,8 @@ module _ (q : Queue) (v : Valid q) (table buffer table′ buffer′ : List ℕ) 
   best none e h l = record {
     none-permitted = ((λ _. none-permitted q v .0 e), (λ _. refl));
     otherwise = λ other. absurd (other refl);
+    behind = λ n a. absurd (omega arith);
+    unwritten = λ _. l .buffer-is;
     entry-of = entry-of q table table′ (l .table-is);
     past = past q table table′ (l .table-is);
   }
@@ -74,6 +81,8 @@ module _ (q : Queue) (v : Valid q) (table buffer table′ buffer′ : List ℕ) 
           rw (l .buffer-is, length-sets) short,
           rw (l .buffer-is, written s buffer short, read-again q v c e) (best-plan q v c e),
         );
+        behind = λ n a. let e : n ≡ length s = omega arith in rw (e, l .buffer-is) (behind s buffer short);
+        unwritten = λ a. absurd (omega arith);
         entry-of = entry-of q table table′ (l .table-is);
         past = past q table table′ (l .table-is);
       }

@@ -4,7 +4,7 @@ use Prim.Native.Nat.{ℕ, _*_, _≤_}
 use mathlib.Core.List.{List, map}
 use mathlib.Core.Logic.{_↔_, _≢_}
 use mathlib.Core.Path.{_≡_}
-use lib.ListN.{length, getD, take}
+use lib.ListN.{length, getD, take, drop}
 use Rattle.refusal.specs.declared.Verdict.the-variants.{Accepted}
 use Rattle.queue.specs.Reading.{readQueue}
 use Rattle.plan.specs.declared.Reading.{Reading}
@@ -46,6 +46,9 @@ pub record Best (P : Problem) (table buffer table′ buffer′ : List ℕ) (answ
   pub none-permitted : (answer ≡ 17) ↔ ((o : List ℕ) → IsOrder P o → Permitted P o → ⊥)
   -- otherwise n bytes are written, and they are the best plan
   pub otherwise : answer ≢ 17 → (n : ℕ) × (answer ≡ 256 * n) × (n ≤ length buffer′) × BestPlan P (readPlan (take n buffer′))
+  -- bytes behind the plan, and on 17 all bytes, are as before
+  pub behind : (n : ℕ) → answer ≡ 256 * n → drop n buffer′ ≡ drop n buffer
+  pub unwritten : answer ≡ 17 → buffer′ ≡ buffer
   -- either way each entry holds the value of its state if kept, else 2^64 − 1, also where k_L = K_L ..
   pub entry-of : (L : ℕ) (k : List ℕ) → IsPair P L k → getD table′ (number P L k) 0 ≡ stored (value P L k)
   -- .. and entries from N × P on are as before

@@ -1,11 +1,11 @@
--- `printing::written` meets its contract: the part has that many bytes, or is the whole buffer.
+-- `finishing::written` meets its contract: the part has that many bytes, or is the whole buffer.
 -- Assumes nothing.
 use mathlib.Core.Path.{sym}
 use native.Mathlib.Omega.{arith}
 use lib.Seq.{length-take-le, take-all}
 use borrow.Author.Needs.{needs}
-use Rattle.printing.proofs.written.Statement.{statement}
-use Rattle.printing.proofs.written.Tie as tie
+use Rattle.finishing.proofs.written.Statement.{statement}
+use Rattle.finishing.proofs.written.Tie as tie
 
 slice-aggregate-result : tie.Need-slice-aggregate-result
 slice-aggregate-result c = sym (length-take-le _ _ (c .before .if1 .taken))
