@@ -1,32 +1,15 @@
-// The numbers of a message, each judged as it is read: one alone, and runs of them; and a message's opening.
+// The numbers of a message, each judged as it is read: one alone, and runs of them.
 use fields::Field;
 use fields::Outcome;
 use number::Read;
 use refusal::Reason;
 ghost use mathlib.Core.Path.{_≡_};
 ghost use Prim.Native.Nat.{_+_, _≤_};
-ghost use lib.ListN.{length, getD};
+ghost use lib.ListN.{length};
 ghost use lib.Seq.{sets};
 ghost use Rattle.number.specs.Readers.{times};
 ghost use Rattle.fields.specs.Fields.{field, within, readBefore};
-ghost use Rattle.fields.specs.Messages.{opens};
 ghost use Rattle.fields.specs.Answers.{asField, asOutcome};
-
-// Whether the bytes begin with a message's opening.
-pub fn has_opening(bytes: &[u8], opening: &[u8; 2]) -> bool
-    ensures { λ r. ⌜ r ≡ opens (getD (now (opening .entry)) 0 0) (getD (now (opening .entry)) 1 0) (now (bytes .entry)) ⌝ }
-{
-    if bytes.len() < 2 {
-        return false;
-    }
-    if bytes[0] != opening[0] {
-        return false;
-    }
-    if bytes[1] != opening[1] {
-        return false;
-    }
-    true
-}
 
 // The number of at most three groups at `at`, from `low` to `high`; any other is refused as `why`.
 pub fn read_field(bytes: &[u8], at: usize, low: u32, high: u32, why: Reason) -> Field

@@ -1,21 +1,9 @@
-// A message's opening and runs of numbers, written.
+// Runs of numbers, written.
 ghost use mathlib.Core.Path.{_≡_};
-ghost use mathlib.Core.List.{[], _∷_};
-ghost use Prim.Native.Nat.{_+_, _≤_, _<_};
-ghost use lib.ListN.{length, getD};
+ghost use Prim.Native.Nat.{_+_, _≤_};
+ghost use lib.ListN.{length};
 ghost use lib.Seq.{sets};
 ghost use Rattle.fields.specs.Fields.{part, encodeAll};
-
-// Writes a message's opening; returns the position behind it.
-pub fn write_opening(buffer: &mut [u8], opening: &[u8; 2]) -> usize
-    requires { ⌜ 1 < length (now buffer) ⌝ }
-    ensures { λ r. ⌜ r ≡ 2 ⌝ }
-    ensures { λ _. ⌜ now (buffer .exit) ≡ sets (now (buffer .entry)) 0 (getD (now (opening .entry)) 0 0 ∷ getD (now (opening .entry)) 1 0 ∷ []) ⌝ }
-{
-    buffer[0] = opening[0];
-    buffer[1] = opening[1];
-    2
-}
 
 // Writes `count` of the values, from `from` on; returns the position behind them.
 pub fn write_run(buffer: &mut [u8], at: usize, values: &[u32], from: usize, count: usize) -> usize

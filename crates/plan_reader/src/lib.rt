@@ -76,7 +76,7 @@ fn read_order(bytes: &[u8], at: usize, jobs: u32, out: &mut [u32]) -> Outcome
 fn read_start(bytes: &[u8]) -> Field
     ensures { λ r. ⌜ r ≡ asField (start (now (bytes .entry)) 0) ⌝ }
 {
-    if !fields_reader::has_opening(bytes, b"QP") {
+    if !openings::has_opening(bytes, b"QP") {
         return Field::Refused(Reason::Opening);
     }
     match fields_reader::read_field(bytes, 2, 1, 1, Reason::Edition) {

@@ -65,7 +65,7 @@ fn write_front(buffer: &mut [u8], plan: Plan) -> usize
     ensures { λ r. ⌜ r ≡ length (frontBytes plan) ⌝ }
     ensures { λ _. ⌜ now (buffer .exit) ≡ sets (now (buffer .entry)) 0 (frontBytes plan) ⌝ }
 {
-    let a = fields_writer::write_opening(buffer, b"QP");
+    let a = openings::write_opening(buffer, b"QP");
     let b = number::write_number(buffer, a, 1);
     let c = number::write_number(buffer, b, plan.goal as u64);
     let d = number::write_number(buffer, c, plan.cost);

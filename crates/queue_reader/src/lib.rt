@@ -296,7 +296,7 @@ fn read_jobs(bytes: &[u8], at: usize, queue: Queue) -> Reading
 pub fn read_queue(bytes: &[u8]) -> Reading
     ensures { λ r. ⌜ r ≡ readQueue (now (bytes .entry)) ⌝ }
 {
-    if fields_reader::has_opening(bytes, b"QS") {
+    if openings::has_opening(bytes, b"QS") {
         match fields_reader::read_field(bytes, 2, 1, 1, Reason::Edition) {
             Field::Refused(why) => refused_reading(why),
             Field::Value { value: _, next } => {
