@@ -12,6 +12,9 @@ TESTS = cases source limits messages random orders
 PROGRAMS = $(TESTS:%=target/c/%)
 HEADERS = include/kippertarn.h examples/messages.h tests/c/reference.h tests/c/lent.h tests/c/queues.h bench/plain.h
 
+# More crates and edits at a time than processors: none idles while the last of a batch ends.
+export RT_JOBS ?= 4
+
 # The tests from C first; the last line is the toolchain's own `N passed, 0 failed`.
 test: c-test
 	rt ci
