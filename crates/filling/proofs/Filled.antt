@@ -25,17 +25,19 @@ use Rattle.sequencing.proofs.AllJobs.{length-all, left-small}
 use Rattle.sequencing.proofs.Bounds.{choice-limit, limit-fits}
 use Rattle.sequencing.proofs.Entries.{left-digits}
 use Rattle.sequencing.proofs.LoopOrder.{count-by-left}
-use Rattle.sequencing.proofs.Radix.{size-pos, stride-pos}
+use Rattle.sequencing.proofs.Options.{none-some}
+use Rattle.sequencing.proofs.Radix.{size-pos}
 use Rattle.sequencing.proofs.Vectors.{at-sum}
 use Rattle.problem.specs.Problem.{problem}
 use Rattle.problem.proofs.Rule.{jobs-is, limits, few-jobs}
 use Rattle.states.specs.Steps.{next}
 use Rattle.states.proofs.Stepping.{next-digits, digits-zero}
-use Rattle.table.specs.Entries.{stored, loaded, candidate, permittedAt, filling, Ready}
+use Rattle.table.specs.Entries.{stored, loaded, nextValues, candidate, permittedAt, filling, Loadable, Ready}
+use Rattle.table.proofs.Candidates.{length-next}
 use Rattle.filling.specs.declared.Shape.{Shape}
 use Rattle.setup.specs.Prepared.{Prepared}
 use Rattle.filling.specs.Staged.{Earlier, Arrays, weightOf, entryFrom, Staged}
-use Rattle.filling.proofs.Values.{left-at, next-at, candidate-is, filling-is}
+use Rattle.filling.proofs.Values.{left-at, next-at, candidate-is, candidate-past, filling-is}
 use Rattle.filling.proofs.Staging.{sum-ext}
 use Rattle.setup.proofs.Preparing.{counts-all, counts-few, entries-fit}
 
@@ -122,42 +124,43 @@ module _ (q : Queue) (v : Valid q) (sized : Sized q) (counts jobs strides : List
   unfolding entryFrom
   entry-is-value L l u =
       let made : ℕ → ℕ → ℕ → Option ℕ = λ weight remaining place.
-      filling table left (q .gaps) strides (q .kinds) n i weight remaining (permittedAt left counts jobs (q .«first_places») (q .«last_places») place (q .«max_shift») L) L in
+      filling (nextValues table left strides (q .kinds) n i) (q .gaps) weight remaining (permittedAt left counts jobs (q .«first_places») (q .«last_places») place (q .«max_shift») L) L in
       let same = ap sum (w .here) in
       let there : q .jobs - sum (take (q .kinds) left) ≡ place (problem q) (digits (all (problem q)) i) = omega (arith, jobs-is q) in
       (λ j. made (weight-is j) (same j) (there j)) ∙ filling-is q v counts jobs strides n p left i (w .here) in-block table (w .done) L l u
 
   -- what a stage may rely on
-  pub ready : (L : ℕ) → L ≤ q .kinds → Ready table left (q .gaps) strides L (q .kinds) n i (W (problem q) (digits (all (problem q)) i))
-  ready L u = record {
-    few = v .kinds .1;
-    row-in = u;
+  pub loadable : Loadable table left strides (q .kinds) n i
+  loadable = record {
     left-long = w .left-long;
-    gaps-long = sized .gaps;
     strides-long = p .strides-long;
     index-in = h;
     table-long = rw (p .size-is) (omega (arith, w .long));
-    earlier = λ x a b c. stride-in x a b (rw (left-at q v counts jobs strides n p left i (w .here) in-block x a b) at c);
-    small = λ x d a b c e. small x d a b c e;
+    earlier = λ x a b c.
+        omega (arith, next-at q v counts jobs strides n p left i (w .here) in-block x a b (rw (left-at q v counts jobs strides n p left i (w .here) in-block x a b) at c));
+  }
+
+  pub ready : (L : ℕ) → L ≤ q .kinds → Ready (nextValues table left strides (q .kinds) n i) (q .gaps) L (W (problem q) (digits (all (problem q)) i))
+  ready L u = record {
+    row-in = omega (arith, v .kinds);
+    next-long = length-next table left strides (q .kinds) n i;
+    gaps-long = sized .gaps;
+    small = λ x d a b e. elim (below-or-not (q .kinds) x) [
+      | inl b′ ↦ absurd (none-some (W (problem q) (digits (all (problem q)) i) * getD (q .gaps) (5 * L + (x - 1)) 0 + d) (sym (candidate-past q v counts jobs strides n p left i (w .here) in-block table (w .done) L x b′ b) ∙ found-there x d e))
+      | inr b′ ↦ (let s = candidate-is q v counts jobs strides n p left i (w .here) in-block table (w .done) L x a b′ in
+          omega (arith, choice-limit (problem q) (limits q v) (few-jobs q v) L (digits (all (problem q)) i) x _ u (left-digits (problem q) i) (sym s ∙ found-there x d e), limit-fits))
+    ];
   }
     where
-      stride-in : (x : ℕ) → 1 ≤ x → x ≤ q .kinds → 0 < at (digits (all (problem q)) i) x → (1 ≤ at strides x) × (at strides x ≤ i)
-      stride-in x a b c = (
-        omega (arith, p .strides-are x a b, stride-pos (all (problem q)) x a (omega (arith, length-all (problem q)))),
-        omega (arith, next-at q v counts jobs strides n p left i (w .here) in-block x a b c),
-      )
-
-      small : (x d : ℕ) → 1 ≤ x → x ≤ q .kinds → 0 < at left x → loaded (getD table ((x - 1) * n + i - at strides x) 0) ≡ some d
-          → W (problem q) (digits (all (problem q)) i) * getD (q .gaps) (5 * L + (x - 1)) 0 + d < 2 ^ 64 - 1
-      small x d a b c e =
-          let s = candidate-is q v counts jobs strides n p left i (w .here) in-block table (w .done) L x a b in
-          let t : candidate table left (q .gaps) strides L n i (W (problem q) (digits (all (problem q)) i)) x ≡ some (W (problem q) (digits (all (problem q)) i) * getD (q .gaps) (5 * L + (x - 1)) 0 + d) =
-          rw (lt-ltb 0 (at left x) c, e) in
-          omega (arith, choice-limit (problem q) (limits q v) (few-jobs q v) L (digits (all (problem q)) i) x _ u (left-digits (problem q) i) (sym s ∙ t), limit-fits)
+      found-there : (x d : ℕ) → loaded (at (nextValues table left strides (q .kinds) n i) x) ≡ some d
+          → candidate (nextValues table left strides (q .kinds) n i) (q .gaps) L (W (problem q) (digits (all (problem q)) i)) x
+          ≡ some (W (problem q) (digits (all (problem q)) i) * getD (q .gaps) (5 * L + (x - 1)) 0 + d)
+      found-there x d e = rw e
 
   pub staged : Staged table (arraysOf q counts jobs strides left) (shapeOf q n i)
   staged = record {
     few = v .kinds .1;
+    loadable = loadable;
     ready = λ L l u. rw weight-is (ready L u);
     counts-long = p .counts-long;
     jobs-long = p .jobs-long;

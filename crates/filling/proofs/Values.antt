@@ -1,6 +1,6 @@
 -- What the code computes from arrays and earlier entries is the recursion's value.
 -- Assumes nothing.
-use Prim.Native.Nat.{ℕ, zero, suc, _+_, _-_, _*_, _^_, _≤_, _<_}
+use Prim.Native.Nat.{ℕ, zero, suc, _+_, _-_, _*_, _≤_, _<_}
 use mathlib.Core.List.{List}
 use mathlib.Core.Logic.{inl, inr}
 use mathlib.Core.Option.{Option, none, some}
@@ -10,7 +10,7 @@ use native.Mathlib.Omega.{arith}
 use lib.Dec.{ltb, eqb, eqb→eq}
 use lib.ListN.{getD, take}
 use lib.Seq.{getD-take}
-use borrow.Author.Tests.{ltb-true, eq-eqb, ne-eqb}
+use borrow.Author.Tests.{ltb-true, le-leb, lt-leb, eq-eqb, ne-eqb}
 use Rattle.number.proofs.Steps.{bool-cases}
 use Rattle.queue.specs.declared.Queue.{Queue}
 use Rattle.queue.specs.Record.{kind, Valid}
@@ -30,7 +30,9 @@ use Rattle.sequencing.proofs.Vectors.{at-in}
 use Rattle.problem.specs.Problem.{allowed, problem}
 use Rattle.problem.proofs.Rule.{kind-is}
 use Rattle.problem.proofs.Queues.{value-fits}
-use Rattle.table.specs.Entries.{stored, loaded, candidate, permittedAt, filling}
+use Rattle.table.specs.Entries.{stored, loaded, nextValues, candidate, permittedAt, filling}
+use Rattle.table.proofs.Stored.{fits, loaded-stored, least-past, arg-past}
+use Rattle.table.proofs.Candidates.{loaded-next}
 use Rattle.setup.specs.Prepared.{Prepared}
 use Rattle.filling.specs.Staged.{Earlier}
 
@@ -48,10 +50,6 @@ arg-ext f g (suc n) h =
     rw (least-ext f g n (λ x l u. h x l (omega arith)), h (suc n) (omega arith) (omega arith), arg-ext f g n (λ x l u. h x l (omega arith)))
 
 -- ---- entries
-
-pub loaded-stored : (r : Option ℕ) → ((c : ℕ) → r ≡ some c → c < 2 ^ 64 - 1) → loaded (stored r) ≡ r
-loaded-stored none h = refl
-loaded-stored (some c) h = rw (ne-eqb c (2 ^ 64 - 1) (λ e. omega (arith, h c refl)))
 
 at-take : (n : ℕ) (xs : List ℕ) (x : ℕ) → 1 ≤ x → x ≤ n → at (take n xs) x ≡ at xs x
 at-take n xs zero l u = absurd (omega arith)
@@ -105,33 +103,60 @@ module _ (q : Queue) (v : Valid q) where
         → (x - 1) * size + i - at strides x ≡ (x - 1) * block (problem q) + index (all (problem q)) (complete k x)
     next-pos x l u h = rw (p .size-is) (omega (arith, next-at x l u h))
 
-    -- what a next kind comes to, by the table, is the recursion's choice
-    pub candidate-is : (table : List ℕ) → Earlier (problem q) table i → (L x : ℕ) → 1 ≤ x → x ≤ q .kinds
-        → candidate table left (q .gaps) strides L size i (W (problem q) k) x ≡ choice (problem q) L k x
-    unfolding choice
-    candidate-is table before L x l u =
-        rw (left-at x l u) (elim (bool-cases (ltb 0 (at k x))) [ inl e ↦ rw (e, next-entry (ltb-true 0 (at k x) e)) | inr e ↦ rw e ])
-      where
-        next-entry : 0 < at k x → loaded (getD table ((x - 1) * size + i - at strides x) 0) ≡ value (problem q) x (complete k x)
-        next-entry h =
-            let P = problem q in
-            let s = left-digits P i in
-            let t = next-pair P k x s h in
-            let j = index (all P) (complete k x) in
-            let pos = next-pos x l u h in
-            let e : digits (all P) j ≡ complete k x = digits-index (all P) (complete k x) (t .left .long ∙ sym (length-all P)) (below-all P (complete k x) (t .left)) in
-            let entry : getD table ((x - 1) * block P + j) 0 ≡ stored (value P x (complete k x)) =
-            before x j l u (omega (arith, next-earlier P k x s h, index-digits (all P) i in-block)) ∙ ap (λ (k′ : List ℕ). stored (value P x k′)) e in
-            rw (pos, entry) (loaded-stored (value P x (complete k x)) (λ c f. value-fits q v x (complete k x) c t f .2))
+    module _ (table : List ℕ) (before : Earlier (problem q) table i) where
+      abbrev next : List ℕ
+      next = nextValues table left strides (q .kinds) size i
 
-    -- what an entry gets is its state's value
-    pub filling-is : (table : List ℕ) → Earlier (problem q) table i → (L : ℕ) → 1 ≤ L → L ≤ q .kinds
-        → filling table left (q .gaps) strides (q .kinds) size i (W (problem q) k) (sum k)
-        (permittedAt left counts jobs (q .«first_places») (q .«last_places») (place (problem q) k) (q .«max_shift») L) L
-        ≡ value (problem q) L k
-    filling-is table before L l u =
-        permitted-is L _ l u ∙ elim (eq-zero-or-pos (sum k)) [
-          | inl e ↦ rw (eq-eqb (sum k) 0 e) (sym (value-none-left (problem q) L k e))
-          | inr h ↦ rw (ne-eqb (sum k) 0 (λ e. omega arith))
-              (ap (permit (problem q) L k) (least-ext _ (choice (problem q) L k) (q .kinds) (λ x m n. candidate-is table before L x m n)) ∙ sym (value-some-left (problem q) L k h))
-        ]
+      -- what the table holds for a next state is its value
+      next-entry : (x : ℕ) → 1 ≤ x → x ≤ q .kinds → 0 < at k x → loaded (getD table ((x - 1) * size + i - at strides x) 0) ≡ value (problem q) x (complete k x)
+      next-entry x l u h =
+          let P = problem q in
+          let s = left-digits P i in
+          let t = next-pair P k x s h in
+          let j = index (all P) (complete k x) in
+          let pos = next-pos x l u h in
+          let e : digits (all P) j ≡ complete k x = digits-index (all P) (complete k x) (t .left .long ∙ sym (length-all P)) (below-all P (complete k x) (t .left)) in
+          let entry : getD table ((x - 1) * block P + j) 0 ≡ stored (value P x (complete k x)) =
+          before x j l u (omega (arith, next-earlier P k x s h, index-digits (all P) i in-block)) ∙ ap (λ (k′ : List ℕ). stored (value P x k′)) e in
+          rw (pos, entry) (loaded-stored (value P x (complete k x)) (fits (value P x (complete k x)) (λ c f. value-fits q v x (complete k x) c t f .2)))
+
+      module _ (L : ℕ) where
+        abbrev pub candidateFrom : ℕ → Option ℕ
+        candidateFrom = candidate next (q .gaps) L (W (problem q) k)
+
+        -- what a next kind comes to, by the table, is the recursion's choice
+        pub candidate-is : (x : ℕ) → 1 ≤ x → x ≤ q .kinds → candidateFrom x ≡ choice (problem q) L k x
+        unfolding choice
+        candidate-is x l u =
+            rw (loaded-next table left strides (q .kinds) size i x l (omega (arith, v .kinds)), le-leb x (q .kinds) u, left-at x l u)
+            (elim (bool-cases (ltb 0 (at k x))) [ inl e ↦ rw (e, next-entry x l u (ltb-true 0 (at k x) e)) | inr e ↦ rw e ])
+
+        -- and there are no more kinds
+        pub candidate-past : (x : ℕ) → q .kinds < x → x ≤ 5 → candidateFrom x ≡ none
+        candidate-past x l u = rw (loaded-next table left strides (q .kinds) size i x (omega arith) u, lt-leb x (q .kinds) l)
+
+        five : q .kinds + (5 - q .kinds) ≡ 5
+        five = omega (arith, v .kinds)
+
+        past : (x : ℕ) → q .kinds < x → x ≤ q .kinds + (5 - q .kinds) → candidateFrom x ≡ none
+        past x l u = candidate-past x l (omega (arith, five))
+
+        pub least-is : least candidateFrom 5 ≡ least (choice (problem q) L k) (q .kinds)
+        least-is = ap (least candidateFrom) (sym five) ∙ least-past candidateFrom (q .kinds) (5 - q .kinds) past ∙ least-ext candidateFrom (choice (problem q) L k) (q .kinds) candidate-is
+
+        pub taken-is : (c : ℕ) → least (choice (problem q) L k) (q .kinds) ≡ some c → argLeast candidateFrom 5 ≡ argLeast (choice (problem q) L k) (q .kinds)
+        taken-is c e =
+            ap (argLeast candidateFrom) (sym five)
+            ∙ arg-past candidateFrom (q .kinds) (5 - q .kinds) past c (least-ext candidateFrom (choice (problem q) L k) (q .kinds) candidate-is ∙ e)
+            ∙ arg-ext candidateFrom (choice (problem q) L k) (q .kinds) candidate-is
+
+      -- what an entry gets is its state's value
+      pub filling-is : (L : ℕ) → 1 ≤ L → L ≤ q .kinds
+          → filling next (q .gaps) (W (problem q) k) (sum k)
+          (permittedAt left counts jobs (q .«first_places») (q .«last_places») (place (problem q) k) (q .«max_shift») L) L
+          ≡ value (problem q) L k
+      filling-is L l u =
+          permitted-is L _ l u ∙ elim (eq-zero-or-pos (sum k)) [
+            | inl e ↦ rw (eq-eqb (sum k) 0 e) (sym (value-none-left (problem q) L k e))
+            | inr h ↦ rw (ne-eqb (sum k) 0 (λ e. omega arith)) (ap (permit (problem q) L k) (least-is L) ∙ sym (value-some-left (problem q) L k h))
+          ]

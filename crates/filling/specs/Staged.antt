@@ -11,7 +11,7 @@ use Rattle.sequencing.specs.Problem.{Problem}
 use Rattle.sequencing.specs.States.{all}
 use Rattle.sequencing.specs.Recursion.{value}
 use Rattle.sequencing.specs.Entries.{digits, block}
-use Rattle.table.specs.Entries.{stored, permittedAt, filling, Ready}
+use Rattle.table.specs.Entries.{stored, nextValues, permittedAt, filling, Loadable, Ready}
 use Rattle.filling.specs.declared.Shape.{Shape}
 
 -- the entries of the first i indices are filled
@@ -37,16 +37,21 @@ kOf a n = take (n .kinds) (a .left)
 abbrev pub weightOf : Arrays → Shape → ℕ
 weightOf a n = cond (eqb (n .goal) 1) 1 (weigh (λ j. getD (a .weights) (j - 1) 0) (kOf a n))
 
+-- the entries of the states that follow k
+abbrev pub nextOf : List ℕ → Arrays → Shape → List ℕ
+nextOf table a n = nextValues table (a .left) (a .strides) (n .kinds) (n .block) (n .index)
+
 -- what the entry of (L; k) gets
 unfoldable pub entryFrom : List ℕ → Arrays → Shape → ℕ → Option ℕ
 entryFrom table a n L =
-    filling table (a .left) (a .gaps) (a .strides) (n .kinds) (n .block) (n .index) (weightOf a n) (sum (kOf a n))
+    filling (nextOf table a n) (a .gaps) (weightOf a n) (sum (kOf a n))
     (permittedAt (a .left) (a .counts) (a .jobs) (a .first) (a .last) (n .jobs - sum (kOf a n)) (n .«max_shift») L) L
 
 -- what a stage may rely on
 pub record Staged (table : List ℕ) (a : Arrays) (n : Shape) : Type 0 where
   pub few : n .kinds ≤ 5
-  pub ready : (L : ℕ) → 1 ≤ L → L ≤ n .kinds → Ready table (a .left) (a .gaps) (a .strides) L (n .kinds) (n .block) (n .index) (weightOf a n)
+  pub loadable : Loadable table (a .left) (a .strides) (n .kinds) (n .block) (n .index)
+  pub ready : (L : ℕ) → 1 ≤ L → L ≤ n .kinds → Ready (nextOf table a n) (a .gaps) L (weightOf a n)
   pub counts-long : length (a .counts) ≡ 5
   pub jobs-long : length (a .jobs) ≡ 300
   pub left-long : length (a .left) ≡ 5

@@ -1,7 +1,7 @@
 // Filling the table of a queue: every state's value, and how many states are feasible.
 use queue::Queue;
 use setup::Setup;
-use table::Stage;
+use stages::Stage;
 ghost use mathlib.Core.Path.{_≡_};
 ghost use mathlib.Core.Bool.{cond};
 ghost use Prim.Native.Nat.{ℕ, _+_, _-_, _*_, _≤_, _<_};
@@ -62,12 +62,12 @@ fn fill_index(
         kinds,
         &mut marks,
     );
+    let next = table::load_next(table, left, strides, kinds, shape.block, shape.index);
     stages::fill_states(
         table,
-        left,
+        &next,
         &marks,
         gaps,
-        strides,
         Stage {
             kinds,
             block: shape.block,

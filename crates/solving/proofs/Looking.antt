@@ -3,6 +3,7 @@
 use Prim.Native.Nat.{ℕ, suc, _+_, _-_, _*_, _/_, _≤_, _<_}
 use mathlib.Core.Bool.{cond}
 use mathlib.Core.List.{List}
+use mathlib.Core.Option.{Option, some}
 use mathlib.Core.Path.{_≡_, refl, ap, ap₂, _∙_}
 use native.Mathlib.Nat.{mul-le-mul, suc-mul}
 use native.Mathlib.Omega.{arith}
@@ -18,11 +19,11 @@ use Rattle.sequencing.specs.Least.{least, argLeast}
 use Rattle.sequencing.specs.Recursion.{W, value, choice}
 use Rattle.sequencing.specs.Entries.{digits, block, entries, entry, entryKind, entryLeft}
 use Rattle.problem.specs.Problem.{problem}
-use Rattle.table.specs.Entries.{stored, candidate, Ready}
+use Rattle.table.specs.Entries.{stored, nextValues, candidate, Loadable, Ready}
 use Rattle.setup.specs.Prepared.{Prepared}
 use Rattle.filling.specs.Staged.{Earlier, weightOf, Staged}
-use Rattle.filling.proofs.Values.{least-ext, arg-ext, candidate-is}
-use Rattle.filling.proofs.Filled.{Sized, arraysOf, shapeOf, countAt, Filled, ready, weight-is, staged}
+use Rattle.filling.proofs.Values.{least-is, taken-is}
+use Rattle.filling.proofs.Filled.{Sized, arraysOf, shapeOf, countAt, Filled, loadable, ready, weight-is, staged}
 
 -- a filled table, and the jobs left at an index
 pub record Look (q : Queue) (counts jobs strides : List ℕ) (n : ℕ) (table left : List ℕ) (i : ℕ) : Type 0 where
@@ -50,7 +51,10 @@ module _ {q : Queue} {counts jobs strides : List ℕ} {n : ℕ} {table left : Li
   inside : i < n
   inside = omega (arith, l .prepared .size-is, l .within)
 
-  pub may-look : (row : ℕ) → row ≤ q .kinds → Ready table left (q .gaps) strides row (q .kinds) n i (W (problem q) (digits (all (problem q)) i))
+  pub may-load : Loadable table left strides (q .kinds) n i
+  may-load = loadable q (l .valid) (l .sized) counts jobs strides n (l .prepared) table (l .room) table left (sumBelow (countAt q) i) i looking inside
+
+  pub may-look : (row : ℕ) → row ≤ q .kinds → Ready (nextValues table left strides (q .kinds) n i) (q .gaps) row (W (problem q) (digits (all (problem q)) i))
   may-look row u = ready q (l .valid) (l .sized) counts jobs strides n (l .prepared) table (l .room) table left (sumBelow (countAt q) i) i looking inside row u
 
   pub weighs : weightOf (arraysOf q counts jobs strides left) (shapeOf q n i) ≡ W (problem q) (digits (all (problem q)) i)
@@ -60,15 +64,17 @@ module _ {q : Queue} {counts jobs strides : List ℕ} {n : ℕ} {table left : Li
   stage = staged q (l .valid) (l .sized) counts jobs strides n (l .prepared) table (l .room) table left (sumBelow (countAt q) i) i looking inside
 
   module _ (row : ℕ) where
-    same : (x : ℕ) → 1 ≤ x → x ≤ q .kinds
-        → candidate table left (q .gaps) strides row n i (W (problem q) (digits (all (problem q)) i)) x ≡ choice (problem q) row (digits (all (problem q)) i) x
-    same x a u = candidate-is q (l .valid) counts jobs strides n (l .prepared) left i (l .here) (l .within) table (λ L j a b c. l .whole L j a b (omega (arith, l .within))) row x a u
+    abbrev from-row : ℕ → Option ℕ
+    from-row = candidate (nextValues table left strides (q .kinds) n i) (q .gaps) row (W (problem q) (digits (all (problem q)) i))
 
-    pub least-is : least (candidate table left (q .gaps) strides row n i (W (problem q) (digits (all (problem q)) i))) (q .kinds) ≡ least (choice (problem q) row (digits (all (problem q)) i)) (q .kinds)
-    least-is = least-ext _ _ (q .kinds) same
+    earlier : Earlier (problem q) table i
+    earlier L j a b c = l .whole L j a b (omega (arith, l .within))
 
-    pub taken-is : argLeast (candidate table left (q .gaps) strides row n i (W (problem q) (digits (all (problem q)) i))) (q .kinds) ≡ argLeast (choice (problem q) row (digits (all (problem q)) i)) (q .kinds)
-    taken-is = arg-ext _ _ (q .kinds) same
+    pub least-by-table : least from-row 5 ≡ least (choice (problem q) row (digits (all (problem q)) i)) (q .kinds)
+    least-by-table = least-is q (l .valid) counts jobs strides n (l .prepared) left i (l .here) (l .within) table earlier row
+
+    pub taken-by-table : (c : ℕ) → least (choice (problem q) row (digits (all (problem q)) i)) (q .kinds) ≡ some c → argLeast from-row 5 ≡ argLeast (choice (problem q) row (digits (all (problem q)) i)) (q .kinds)
+    taken-by-table = taken-is q (l .valid) counts jobs strides n (l .prepared) left i (l .here) (l .within) table earlier row
 
 -- a filled table holds every state's value
 pub all-filled : (q : Queue) (old table : List ℕ) → ((m : ℕ) → getD table m 0 ≡ cond (ltb m (entries (problem q))) (stored (entry (problem q) m)) (getD old m 0))

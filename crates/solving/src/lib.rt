@@ -2,7 +2,6 @@
 use queue::Queue;
 use setup::Setup;
 use table::Least;
-use table::Stage;
 ghost use mathlib.Core.Path.{_≡_};
 ghost use mathlib.Core.Bool.{cond};
 ghost use mathlib.Core.Option.{some};
@@ -45,15 +44,8 @@ pub fn best_next(
     let weights = queue.weights;
     let strides = setup.strides;
     let weight = states::stage_weight(queue.goal, left, &weights, kinds);
-    let stage = Stage {
-        kinds,
-        block: setup.block,
-        index,
-        goal: queue.goal,
-        weight,
-        remaining: queue.jobs,
-    };
-    table::least_from(table, left, &gaps, &strides, row, stage)
+    let next = table::load_next(table, left, &strides, kinds, setup.block, index);
+    table::least_of(&next, &gaps, row, queue.goal, weight)
 }
 
 // The plan's cost from the start, NONE where no order is permitted.

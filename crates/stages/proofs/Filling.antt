@@ -1,34 +1,29 @@
 -- The entries of all states with one k, as the loop over the kinds stores them.
 -- Assumes nothing.
-use Prim.Native.Nat.{ℕ, _+_, _-_, _*_, _/_, _%_, _<_, _≤_}
-use mathlib.Core.Bool.{Bool, cond}
+use Prim.Native.Nat.{ℕ, _+_, _-_, _*_, _/_, _<_, _≤_}
+use mathlib.Core.Bool.{cond}
 use mathlib.Core.List.{List}
-use mathlib.Core.Logic.{_≢_, inl, inr}
+use mathlib.Core.Logic.{_≢_}
 use mathlib.Core.Option.{Option, none, some}
 use mathlib.Core.Path.{_≡_, refl, sym, ap, _∙_}
 use native.Mathlib.Numerals.{add-one}
 use native.Mathlib.Nat.{lt-of-lt-of-le}
 use native.Mathlib.Omega.{arith}
-use lib.Arith.{digits-lt, digits-div, digits-mod}
-use lib.Dec.{ltb, eqb}
+use lib.Arith.{digits-lt, digits-div}
+use lib.Dec.{eqb}
 use lib.ListN.{length, getD, set, length-set}
 use lib.Seq.{getD-set-same, getD-set-other}
 use borrow.Author.Count.{below-more}
-use borrow.Author.Tests.{ltb-true}
 use Rattle.sequencing.specs.Lists.{at, sumBelow}
-use Rattle.sequencing.specs.Least.{only, least}
+use Rattle.sequencing.specs.Least.{least}
 use Rattle.sequencing.specs.Counts.{found}
-use Rattle.sequencing.proofs.Counting.{bool-cases}
 use Rattle.table.specs.Entries.{stored, loaded, candidate, filling, Ready}
-use Rattle.table.proofs.Stored.{Fits, fits-only, fits-cond, fits-least, loaded-stored, least-same}
+use Rattle.table.proofs.Stored.{Fits, fits-only, fits-cond, fits-least, loaded-stored}
 use Rattle.table.proofs.Candidates.{candidate-fits}
 
--- an entry stands in one block, at one index
+-- an entry stands in one block
 same-block : (p q j l i : ℕ) → j < p → i < p → q * p + j ≡ l * p + i → q ≡ l
 same-block p q j l i hj hi e = sym (digits-div q hj) ∙ ap (λ (k : ℕ). k / p) e ∙ digits-div l hi
-
-same-index : (p q j l i : ℕ) → j < p → i < p → q * p + j ≡ l * p + i → j ≡ i
-same-index p q j l i hj hi e = sym (digits-mod q hj) ∙ ap (λ (k : ℕ). k % p) e ∙ digits-mod l hi
 
 found-one : (r : Option ℕ) → found r ≤ 1
 found-one none = omega arith
@@ -38,10 +33,10 @@ sum-more : (f : ℕ → ℕ) (n : ℕ) → sumBelow f (n + 1) ≡ sumBelow f n +
 unfolding sumBelow
 sum-more f n = rw add-one
 
-module _ (table₀ left marks gaps strides : List ℕ) (kinds block index weight remaining : ℕ) where
+module _ (table₀ next marks gaps : List ℕ) (kinds block index weight remaining : ℕ) where
   -- what the state of kind L gets
   abbrev pub valueOf : ℕ → Option ℕ
-  valueOf L = filling table₀ left gaps strides kinds block index weight remaining (eqb (at marks L) 1) L
+  valueOf L = filling next gaps weight remaining (eqb (at marks L) 1) L
 
   -- the first kinds have their entries, all else is as in table₀
   pub record FillingStates (table : List ℕ) (feasible kind : ℕ) : Type 0 where
@@ -64,58 +59,23 @@ module _ (table₀ left marks gaps strides : List ℕ) (kinds block index weight
   }
 
   module _ (table : List ℕ) (feasible kind : ℕ) (w : FillingStates table feasible kind) where
-    -- the entries of one k are not read for it: a next state's entry has a lower index
-    module _ (L : ℕ) (r : Ready table₀ left gaps strides L kinds block index weight) where
-      next-still : (x : ℕ) → 1 ≤ x → x ≤ kinds → 0 < at left x
-          → getD table ((x - 1) * block + index - at strides x) 0 ≡ getD table₀ ((x - 1) * block + index - at strides x) 0
-      next-still x l u h =
-          let (s, t) = r .earlier x l u h in
-          let i = r .index-in in
-          w .rest ((x - 1) * block + index - at strides x)
-          (λ k m e. omega (arith, same-index block (x - 1) (index - at strides x) k index (omega arith) i (omega arith)))
+    value-fits : (L : ℕ) → Ready next gaps L weight → Fits (valueOf L)
+    value-fits L r =
+        let m = least (candidate next gaps L weight) 5 in
+        fits-only (eqb (at marks L) 1) (cond (eqb remaining 0) (some 0) m)
+        (fits-cond (eqb remaining 0) (some 0) m (omega arith) (fits-least (candidate next gaps L weight) 5 (candidate-fits r)))
 
-      pub ready-still : Ready table left gaps strides L kinds block index weight
-      ready-still = record {
-        few = r .few;
-        row-in = r .row-in;
-        left-long = r .left-long;
-        gaps-long = r .gaps-long;
-        strides-long = r .strides-long;
-        index-in = r .index-in;
-        table-long = rw (w .long) (r .table-long);
-        earlier = r .earlier;
-        small = λ x d l u h e. r .small x d l u h (rw (next-still x l u h) at e);
-      }
-
-      candidate-still : (x : ℕ) → 1 ≤ x → x ≤ kinds
-          → candidate table left gaps strides L block index weight x ≡ candidate table₀ left gaps strides L block index weight x
-      candidate-still x l u = elim (bool-cases (ltb 0 (at left x))) [ inl q ↦ rw (next-still x l u (ltb-true 0 (at left x) q)) | inr q ↦ rw q ]
-
-      value-still : (permitted : Bool) → filling table left gaps strides kinds block index weight remaining permitted L
-          ≡ filling table₀ left gaps strides kinds block index weight remaining permitted L
-      value-still permitted =
-          ap (λ (m : Option ℕ). only permitted (cond (eqb remaining 0) (some 0) m))
-          (least-same (candidate table left gaps strides L block index weight) (candidate table₀ left gaps strides L block index weight) kinds candidate-still)
-
-      value-fits : Fits (valueOf L)
-      value-fits =
-          let m = least (candidate table₀ left gaps strides L block index weight) kinds in
-          fits-only (eqb (at marks L) 1) (cond (eqb remaining 0) (some 0) m)
-          (fits-cond (eqb remaining 0) (some 0) m (omega arith)
-          (fits-least (candidate table₀ left gaps strides L block index weight) kinds (candidate-fits r)))
-
-    module _ (h : kind < kinds) (r : Ready table₀ left gaps strides (kind + 1) kinds block index weight) where
+    module _ (h : kind < kinds) (i : index < block) (room : kinds * block ≤ length table₀) (r : Ready next gaps (kind + 1) weight) where
       pub filling-in : kind * block + index < length table
-      filling-in = rw (w .long) (lt-of-lt-of-le (digits-lt h (r .index-in)) (r .table-long))
+      filling-in = rw (w .long) (lt-of-lt-of-le (digits-lt h i) room)
 
-      pub filling-more : (value : ℕ) → value ≡ stored (filling table left gaps strides kinds block index weight remaining (eqb (getD marks kind 0) 1) (kind + 1))
+      pub filling-more : (value : ℕ) → value ≡ stored (filling next gaps weight remaining (eqb (getD marks kind 0) 1) (kind + 1))
           → FillingStates (set table (kind * block + index) value) (feasible + found (loaded value)) (kind + 1)
       filling-more value got =
           let mark : at marks (kind + 1) ≡ getD marks kind 0 = rw add-one in
-          let e : value ≡ stored (valueOf (kind + 1)) = rw mark (got ∙ ap stored (value-still (kind + 1) r (eqb (getD marks kind 0) 1))) in
+          let e : value ≡ stored (valueOf (kind + 1)) = rw mark got in
           let one : found (loaded value) ≡ found (valueOf (kind + 1)) = rw e (ap found (loaded-stored (valueOf (kind + 1)) (value-fits (kind + 1) r))) in
           let at = kind * block + index in
-          let i = r .index-in in
           record {
             few = omega arith;
             long = length-set table at value ∙ w .long;

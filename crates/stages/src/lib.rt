@@ -1,5 +1,4 @@
 // The entries of all states with one k, stored and counted.
-use table::Stage;
 ghost use mathlib.Core.Path.{_≡_};
 ghost use Prim.Native.Nat.{ℕ, _+_, _-_, _*_, _^_, _≤_, _<_};
 ghost use lib.Dec.{eqb};
@@ -8,18 +7,24 @@ ghost use Rattle.sequencing.specs.Lists.{at, sumBelow};
 ghost use Rattle.sequencing.specs.Counts.{found};
 ghost use Rattle.table.specs.Entries.{stored, loaded, filling, Ready};
 
+// The numbers of one k that all its states share.
+pub struct Stage {
+    pub kinds: usize,
+    // 01's P.
+    pub block: usize,
+    // The counts' part of the entry number.
+    pub index: usize,
+    pub goal: u32,
+    // 01's W.
+    pub weight: u64,
+    // Jobs left.
+    pub remaining: u32,
+}
+
 // The value of one state, NONE where it is not feasible.
-fn state_value(
-    table: &[u64],
-    left: &[u32],
-    mark: u32,
-    gaps: &[u32],
-    strides: &[usize],
-    kind: usize,
-    stage: Stage,
-) -> u64
-    requires { ⌜ Ready (now table) (now left) (now gaps) (now strides) kind (stage .kinds) (stage .block) (stage .index) (stage .weight) × (stage .goal ≡ 1 → stage .weight ≡ 1) ⌝ }
-    ensures { λ r. ⌜ r ≡ stored (filling (now (table .entry)) (now (left .entry)) (now (gaps .entry)) (now (strides .entry)) (stage .kinds) (stage .block) (stage .index) (stage .weight) (stage .remaining) (eqb mark 1) kind) ⌝ }
+fn state_value(next: &[u64], mark: u32, gaps: &[u32], kind: usize, stage: Stage) -> u64
+    requires { ⌜ Ready (now next) (now gaps) kind (stage .weight) × (stage .goal ≡ 1 → stage .weight ≡ 1) ⌝ }
+    ensures { λ r. ⌜ r ≡ stored (filling (now (next .entry)) (now (gaps .entry)) (stage .weight) (stage .remaining) (eqb mark 1) kind) ⌝ }
 {
     if mark != 1 {
         return table::NONE;
@@ -27,7 +32,7 @@ fn state_value(
     if stage.remaining == 0 {
         return 0;
     }
-    let best = table::least_from(table, left, gaps, strides, kind, stage);
+    let best = table::least_of(next, gaps, kind, stage.goal, stage.weight);
     best.cost
 }
 
@@ -46,17 +51,16 @@ fn counted(feasible: u64, value: u64) -> u64
 // Stores the entries of all states with one k; returns how many of them hold a value.
 pub fn fill_states(
     table: &mut [u64],
-    left: &[u32],
+    next: &[u64],
     marks: &[u32],
     gaps: &[u32],
-    strides: &[usize],
     stage: Stage,
 ) -> u64
-    requires { ⌜ ((L : ℕ) → 1 ≤ L → L ≤ stage .kinds → Ready (now table) (now left) (now gaps) (now strides) L (stage .kinds) (stage .block) (stage .index) (stage .weight)) × ((length (now marks) ≡ 5) × ((stage .kinds ≤ 5) × (stage .goal ≡ 1 → stage .weight ≡ 1))) ⌝ }
+    requires { ⌜ ((L : ℕ) → 1 ≤ L → L ≤ stage .kinds → Ready (now next) (now gaps) L (stage .weight)) × ((length (now marks) ≡ 5) × ((stage .kinds ≤ 5) × ((stage .goal ≡ 1 → stage .weight ≡ 1) × ((stage .index < stage .block) × (stage .kinds * stage .block ≤ length (now table)))))) ⌝ }
     ensures { λ _. ⌜ length (now (table .exit)) ≡ length (now (table .entry)) ⌝ }
-    ensures { λ _. ⌜ ((L : ℕ) → 1 ≤ L → L ≤ stage .kinds → getD (now (table .exit)) ((L - 1) * stage .block + stage .index) 0 ≡ stored (filling (now (table .entry)) (now (left .entry)) (now (gaps .entry)) (now (strides .entry)) (stage .kinds) (stage .block) (stage .index) (stage .weight) (stage .remaining) (eqb (at (now (marks .entry)) L) 1) L)) ⌝ }
+    ensures { λ _. ⌜ ((L : ℕ) → 1 ≤ L → L ≤ stage .kinds → getD (now (table .exit)) ((L - 1) * stage .block + stage .index) 0 ≡ stored (filling (now (next .entry)) (now (gaps .entry)) (stage .weight) (stage .remaining) (eqb (at (now (marks .entry)) L) 1) L)) ⌝ }
     ensures { λ _. ⌜ ((n : ℕ) → ((L : ℕ) → 1 ≤ L → L ≤ stage .kinds → n ≡ (L - 1) * stage .block + stage .index → ⊥) → getD (now (table .exit)) n 0 ≡ getD (now (table .entry)) n 0) ⌝ }
-    ensures { λ r. ⌜ r ≡ sumBelow (λ l. found (filling (now (table .entry)) (now (left .entry)) (now (gaps .entry)) (now (strides .entry)) (stage .kinds) (stage .block) (stage .index) (stage .weight) (stage .remaining) (eqb (at (now (marks .entry)) (l + 1)) 1) (l + 1))) (stage .kinds) ⌝ }
+    ensures { λ r. ⌜ r ≡ sumBelow (λ l. found (filling (now (next .entry)) (now (gaps .entry)) (stage .weight) (stage .remaining) (eqb (at (now (marks .entry)) (l + 1)) 1) (l + 1))) (stage .kinds) ⌝ }
 {
     let kinds = stage.kinds;
     let block = stage.block;
@@ -64,7 +68,7 @@ pub fn fill_states(
     let mut feasible: u64 = 0;
     let mut kind: usize = 0;
     while kind < kinds {
-        let value = state_value(table, left, marks[kind], gaps, strides, kind + 1, stage);
+        let value = state_value(next, marks[kind], gaps, kind + 1, stage);
         table[kind * block + index] = value;
         feasible = counted(feasible, value);
         kind = kind + 1;

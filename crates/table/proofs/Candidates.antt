@@ -1,59 +1,88 @@
 -- What each kind as the next comes to, and that what is read for it lies in the arrays.
 -- Assumes nothing.
-use Prim.Native.Nat.{ℕ, suc, _+_, _-_, _*_, _^_, _≤_, _<_}
-use mathlib.Core.Bool.{Bool, true, false}
+use Prim.Native.Nat.{ℕ, zero, suc, _+_, _-_, _*_, _^_, _≤_, _<_}
+use mathlib.Core.Bool.{Bool, true, false, _&&_}
 use mathlib.Core.List.{List}
-use mathlib.Core.Option.{none, some}
-use mathlib.Core.Path.{_≡_, refl}
-use native.Mathlib.Numerals.{add-one}
+use mathlib.Core.Option.{some}
+use mathlib.Core.Path.{_≡_, refl, sym, ap, _∙_}
 use native.Mathlib.Nat.{lt-of-lt-of-le}
 use native.Mathlib.Omega.{arith}
 use lib.Arith.{digits-lt}
-use lib.Dec.{ltb, ltb→lt}
-use lib.ListN.{length, getD}
-use borrow.Author.Tests.{lt-ltb, ne-eqb}
+use lib.Dec.{leb, ltb}
+use lib.ListN.{length, getD, set, length-set}
+use lib.Seq.{getD-set-same, getD-set-other, ext-getD}
+use borrow.Author.Count.{below-more}
 use Rattle.sequencing.specs.Lists.{at}
-use Rattle.sequencing.specs.Least.{only, plus}
-use Rattle.sequencing.proofs.Options.{only-some, plus-some}
-use Rattle.table.specs.Entries.{loaded, candidate, Ready}
-use Rattle.table.proofs.Stored.{Fits, fits}
+use Rattle.sequencing.specs.Least.{only}
+use Rattle.sequencing.proofs.Options.{plus-some}
+use Rattle.table.specs.Entries.{stored, loaded, nextValue, nextValues, candidate, Loadable, Ready}
+use Rattle.table.proofs.Stored.{Fits, fits, stored-loaded}
 
-only-none : (b : Bool) → only b none ≡ none
-only-none true = refl
-only-none false = refl
+-- ---- from a row
 
-module _ {table left gaps strides : List ℕ} {row kinds block index w : ℕ} (r : Ready table left gaps strides row kinds block index w) where
-  pub candidate-fits : (x : ℕ) → 1 ≤ x → x ≤ kinds → Fits (candidate table left gaps strides row block index w x)
-  candidate-fits x l u = fits (candidate table left gaps strides row block index w x) (λ c e.
-      let (t, p) = only-some (ltb 0 (at left x)) (plus (w * getD gaps (5 * row + (x - 1)) 0) (loaded (getD table ((x - 1) * block + index - at strides x) 0))) c e in
-      let (d, q, s) = plus-some (w * getD gaps (5 * row + (x - 1)) 0) (loaded (getD table ((x - 1) * block + index - at strides x) 0)) c p in
-      omega (arith, r .small x d l u (ltb→lt 0 (at left x) t) q))
+module _ {next gaps : List ℕ} {row w : ℕ} (r : Ready next gaps row w) where
+  pub candidate-fits : (x : ℕ) → 1 ≤ x → x ≤ 5 → Fits (candidate next gaps row w x)
+  candidate-fits x l u = fits (candidate next gaps row w x) (λ c e.
+      let (d, q, s) = plus-some (w * getD gaps (5 * row + (x - 1)) 0) (loaded (at next x)) c e in
+      omega (arith, r .small x d l u q))
 
-  module _ {x : ℕ} (h : x < kinds) where
+  -- kind x, from 0
+  pub small-next : (x : ℕ) → x < 5 → (v : ℕ) → loaded (getD next x 0) ≡ some v → w * getD gaps (5 * row + x) 0 + v < 2 ^ 64 - 1
+  small-next x h v e =
+      let s : suc x - 1 ≡ x = omega arith in
+      rw s at (r .small (suc x) v (omega arith) h e)
+
+-- ---- the next states' entries
+
+loaded-only : (b : Bool) (v : ℕ) → loaded (stored (only b (loaded v))) ≡ only b (loaded v)
+loaded-only true v = ap loaded (stored-loaded v)
+loaded-only false v = refl
+
+module _ (table left strides : List ℕ) (kinds block index : ℕ) where
+  pub at-next : (x : ℕ) → 1 ≤ x → x ≤ 5 → at (nextValues table left strides kinds block index) x ≡ stored (nextValue table left strides kinds block index x)
+  unfolding nextValues
+  at-next zero l u = absurd (omega arith)
+  at-next (suc zero) l u = refl
+  at-next (suc (suc zero)) l u = refl
+  at-next (suc (suc (suc zero))) l u = refl
+  at-next (suc (suc (suc (suc zero)))) l u = refl
+  at-next (suc (suc (suc (suc (suc zero))))) l u = refl
+  at-next (suc (suc (suc (suc (suc (suc x)))))) l u = absurd (omega arith)
+
+  pub loaded-next : (x : ℕ) → 1 ≤ x → x ≤ 5 → loaded (at (nextValues table left strides kinds block index) x) ≡ nextValue table left strides kinds block index x
+  loaded-next x l u =
+      ap loaded (at-next x l u) ∙ loaded-only (leb x kinds && ltb 0 (at left x)) (getD table ((x - 1) * block + index - at strides x) 0)
+
+  pub length-next : length (nextValues table left strides kinds block index) ≡ 5
+  unfolding nextValues
+  length-next = refl
+
+  -- the first x kinds are loaded
+  pub record Loading (next : List ℕ) (x : ℕ) : Type 0 where
+    pub few : x ≤ 5
+    pub long : length next ≡ 5
+    pub done : (k : ℕ) → k < x → getD next k 0 ≡ stored (nextValue table left strides kinds block index (suc k))
+
+  pub loading-none : (next : List ℕ) → length next ≡ 5 → Loading next 0
+  loading-none next l = record { few = omega arith; long = l; done = λ k h. absurd (omega arith) }
+
+  module _ (next : List ℕ) (x : ℕ) (w : Loading next x) where
+    pub loading-more : x < 5 → (value : ℕ) → value ≡ stored (nextValue table left strides kinds block index (suc x)) → Loading (set next x value) (x + 1)
+    loading-more h value e = record {
+      few = omega arith;
+      long = length-set next x value ∙ w .long;
+      done =
+          below-more (λ (k : ℕ). getD (set next x value) k 0 ≡ stored (nextValue table left strides kinds block index (suc k))) x
+          (λ k l. getD-set-other next x k value 0 (λ q. omega arith) ∙ w .done k l)
+          (getD-set-same next x value 0 (omega (arith, w .long)) ∙ e);
+    }
+
+    pub loading-done : 5 ≤ x → next ≡ nextValues table left strides kinds block index
+    unfolding nextValues
+    loading-done h =
+        ext-getD 0 next (nextValues table left strides kinds block index) (w .long) (λ k l. w .done k (omega (arith, w .long)) ∙ sym (at-next (suc k) (omega arith) (omega (arith, w .long))))
+
+  module _ (r : Loadable table left strides kinds block index) (x : ℕ) where
     -- the entry of (x; k), from which the stride is taken off
-    pub entry-in : x * block + index < length table
-    entry-in = lt-of-lt-of-le (digits-lt h (r .index-in)) (r .table-long)
-
-    pub stride-in : 0 < getD left x 0 → (1 ≤ getD strides x 0) × (getD strides x 0 ≤ index)
-    stride-in l = rw add-one at (r .earlier (x + 1) (omega arith) (omega arith) (rw add-one l))
-
-    pub none-left : getD left x 0 ≡ 0 → candidate table left gaps strides row block index w (x + 1) ≡ none
-    none-left e = rw (add-one, e)
-
-    pub no-value : getD table (x * block + index - getD strides x 0) 0 ≡ 2 ^ 64 - 1
-        → candidate table left gaps strides row block index w (x + 1) ≡ none
-    no-value e =
-        let s : suc x - 1 ≡ x = omega arith in
-        rw (add-one, s, e) (only-none (ltb 0 (getD left x 0)))
-
-    module _ (l : 0 < getD left x 0) (n : getD table (x * block + index - getD strides x 0) 0 ≡ 2 ^ 64 - 1 → ⊥) where
-      pub a-value : candidate table left gaps strides row block index w (x + 1)
-          ≡ some (w * getD gaps (5 * row + x) 0 + getD table (x * block + index - getD strides x 0) 0)
-      a-value =
-          let s : suc x - 1 ≡ x = omega arith in
-          rw (add-one, s, lt-ltb 0 (getD left x 0) l, ne-eqb (getD table (x * block + index - getD strides x 0) 0) (2 ^ 64 - 1) n)
-
-      pub cost-in : w * getD gaps (5 * row + x) 0 + getD table (x * block + index - getD strides x 0) 0 < 2 ^ 64
-      cost-in =
-          let f = rw a-value at (candidate-fits (x + 1) (omega arith) (omega arith)) in
-          omega arith
+    pub entry-in : x < kinds → 0 < getD left x 0 → (x * block + index < length table) × (getD strides x 0 ≤ index)
+    entry-in h l = (lt-of-lt-of-le (digits-lt h (r .index-in)) (r .table-long), r .earlier (suc x) (omega arith) h l)

@@ -1,13 +1,14 @@
 -- Values as the table holds them: 2^64 − 1 is none only where no cost is as large.
 -- Assumes nothing.
-use Prim.Native.Nat.{ℕ, zero, suc, _-_, _^_, _<_, _≤_, min}
+use Prim.Native.Nat.{ℕ, zero, suc, _+_, _-_, _^_, _<_, _≤_, min}
 use mathlib.Core.Bool.{Bool, true, false, cond}
 use mathlib.Core.Logic.{inl, inr}
 use mathlib.Core.Option.{Option, none, some}
-use mathlib.Core.Path.{_≡_, refl}
+use mathlib.Core.Path.{_≡_, refl, sym, _∙_}
+use native.Mathlib.Nat.{add-zero}
 use native.Mathlib.Omega.{arith}
-use lib.Dec.{leb, ltb}
-use borrow.Author.Tests.{lt-ltb, le-ltb, ne-eqb, leb-true, leb-false}
+use lib.Dec.{leb, ltb, eqb}
+use borrow.Author.Tests.{lt-ltb, le-ltb, ne-eqb, eqb-true, leb-true, leb-false}
 use Rattle.sequencing.specs.Least.{only, lower, reaches, least, argLeast}
 use Rattle.sequencing.proofs.Counting.{bool-cases}
 use Rattle.sequencing.proofs.Options.{none-some}
@@ -38,6 +39,9 @@ pub loaded-stored : (r : Option ℕ) → Fits r → loaded (stored r) ≡ r
 loaded-stored none h = refl
 loaded-stored (some c) h = rw (ne-eqb c (2 ^ 64 - 1) (λ e. omega arith))
 
+pub stored-loaded : (v : ℕ) → stored (loaded v) ≡ v
+stored-loaded v = elim (bool-cases (eqb v (2 ^ 64 - 1))) [ inl e ↦ rw e (sym (eqb-true v (2 ^ 64 - 1) e)) | inr e ↦ rw e ]
+
 pub stored-lower : (a b : Option ℕ) → Fits a → Fits b → stored (lower a b) ≡ min (stored a) (stored b)
 stored-lower none none h k = refl
 stored-lower none (some b) h k = omega arith
@@ -60,7 +64,23 @@ fits-least f n h =
     fits (least f n)
     (λ c e. let s = smallest f n c e in fits-some (f (argLeast f n)) c (h (argLeast f n) (s .low) (s .high)) (s .reached))
 
-pub least-same : (f g : ℕ → Option ℕ) (n : ℕ) → ((x : ℕ) → 1 ≤ x → x ≤ n → f x ≡ g x) → least f n ≡ least g n
-unfolding least
-least-same f g zero h = refl
-least-same f g (suc n) h = rw (least-same f g n (λ x l u. h x l (omega arith)), h (suc n) (omega arith) (omega arith))
+lower-none : (a : Option ℕ) → lower a none ≡ a
+lower-none none = refl
+lower-none (some a) = refl
+
+-- kinds without a value past n change nothing
+module _ (f : ℕ → Option ℕ) (n : ℕ) where
+  pub least-past : (m : ℕ) → ((x : ℕ) → n < x → x ≤ n + m → f x ≡ none) → least f (n + m) ≡ least f n
+  unfolding least
+  least-past zero h = rw add-zero
+  least-past (suc m) h =
+      let s : n + suc m ≡ suc (n + m) = omega arith in
+      rw (s, h (suc (n + m)) (omega arith) (omega arith)) (lower-none (least f (n + m)) ∙ least-past m (λ x l u. h x l (omega arith)))
+
+  pub arg-past : (m : ℕ) → ((x : ℕ) → n < x → x ≤ n + m → f x ≡ none) → (c : ℕ) → least f n ≡ some c → argLeast f (n + m) ≡ argLeast f n
+  unfolding argLeast
+  arg-past zero h c e = rw add-zero
+  arg-past (suc m) h c e =
+      let s : n + suc m ≡ suc (n + m) = omega arith in
+      let earlier : (x : ℕ) → n < x → x ≤ n + m → f x ≡ none = λ x l u. h x l (omega arith) in
+      rw (s, h (suc (n + m)) (omega arith) (omega arith), least-past m earlier ∙ e) (arg-past m earlier c e)

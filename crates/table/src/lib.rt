@@ -1,13 +1,14 @@
-// The table of values: the least over the kinds left from any row.
+// The table of values: what the next states hold, and the least over them from any row.
 use units::PupilSeconds;
 use units::Seconds;
 ghost use mathlib.Core.Path.{_≡_};
-ghost use mathlib.Core.Bool.{cond};
+ghost use mathlib.Core.Bool.{cond, _&&_};
 ghost use mathlib.Core.Option.{some};
-ghost use Prim.Native.Nat.{ℕ, min, _+_, _*_, _^_, _<_};
-ghost use lib.Dec.{ltb};
-ghost use Rattle.sequencing.specs.Least.{least, argLeast};
-ghost use Rattle.table.specs.Entries.{stored, candidate, Ready};
+ghost use Prim.Native.Nat.{ℕ, min, _+_, _-_, _*_, _^_, _≤_, _<_};
+ghost use lib.Dec.{leb, ltb};
+ghost use lib.ListN.{length, getD};
+ghost use Rattle.sequencing.specs.Least.{only, plus, least, argLeast};
+ghost use Rattle.table.specs.Entries.{stored, loaded, nextValues, candidate, Loadable, Ready};
 
 // An entry that holds no value.
 pub const NONE: u64 = 18446744073709551615;
@@ -16,20 +17,6 @@ pub const NONE: u64 = 18446744073709551615;
 pub struct Least {
     pub cost: u64,
     pub kind: usize,
-}
-
-// The numbers of one k that all its states share.
-pub struct Stage {
-    pub kinds: usize,
-    // 01's P.
-    pub block: usize,
-    // The counts' part of the entry number.
-    pub index: usize,
-    pub goal: u32,
-    // 01's W.
-    pub weight: u64,
-    // Jobs left.
-    pub remaining: u32,
 }
 
 // One step's cost and what comes after it, in the goal's own unit.
@@ -48,29 +35,15 @@ fn step_cost(goal: u32, weight: u64, gap: u32, value: u64) -> u64
     }
 }
 
-// What kind x (from 0) as the next comes to, NONE where it cannot be.
-fn next_cost(
-    table: &[u64],
-    left: &[u32],
-    gaps: &[u32],
-    strides: &[usize],
-    row: usize,
-    x: usize,
-    stage: Stage,
-) -> u64
-    requires { ⌜ Ready (now table) (now left) (now gaps) (now strides) row (stage .kinds) (stage .block) (stage .index) (stage .weight) × ((x < stage .kinds) × (stage .goal ≡ 1 → stage .weight ≡ 1)) ⌝ }
-    ensures { λ r. ⌜ r ≡ stored (candidate (now (table .entry)) (now (left .entry)) (now (gaps .entry)) (now (strides .entry)) row (stage .block) (stage .index) (stage .weight) (x + 1)) ⌝ }
+// What a next state with this value comes to, NONE where it has none.
+fn next_cost(value: u64, gap: u32, goal: u32, weight: u64) -> u64
+    requires { ⌜ (goal ≡ 1 → weight ≡ 1) × ((v : ℕ) → loaded value ≡ some v → weight * gap + v < 2 ^ 64 - 1) ⌝ }
+    ensures { λ r. ⌜ r ≡ stored (plus (weight * gap) (loaded value)) ⌝ }
 {
-    if left[x] == 0 {
-        return NONE;
-    }
-    let block = stage.block;
-    let index = stage.index;
-    let value = table[x * block + index - strides[x]];
     if value == NONE {
         return NONE;
     }
-    step_cost(stage.goal, stage.weight, gaps[5 * row + x], value)
+    step_cost(goal, weight, gap, value)
 }
 
 // The better of two, the earlier where they are equal.
@@ -85,29 +58,65 @@ fn lower(best: Least, cost: u64, kind: usize) -> Least
     }
 }
 
-// The least over the kinds left after row (a kind, or 0 for the cold cutter), by the table.
-pub fn least_from(
-    table: &[u64],
-    left: &[u32],
-    gaps: &[u32],
-    strides: &[usize],
-    row: usize,
-    stage: Stage,
-) -> Least
-    requires { ⌜ Ready (now table) (now left) (now gaps) (now strides) row (stage .kinds) (stage .block) (stage .index) (stage .weight) × (stage .goal ≡ 1 → stage .weight ≡ 1) ⌝ }
-    ensures { λ r. ⌜ r .cost ≡ stored (least (candidate (now (table .entry)) (now (left .entry)) (now (gaps .entry)) (now (strides .entry)) row (stage .block) (stage .index) (stage .weight)) (stage .kinds)) ⌝ }
-    ensures { λ r. ⌜ ((c : ℕ) → least (candidate (now (table .entry)) (now (left .entry)) (now (gaps .entry)) (now (strides .entry)) row (stage .block) (stage .index) (stage .weight)) (stage .kinds) ≡ some c → r .kind ≡ argLeast (candidate (now (table .entry)) (now (left .entry)) (now (gaps .entry)) (now (strides .entry)) row (stage .block) (stage .index) (stage .weight)) (stage .kinds)) ⌝ }
+// The least over the next states after row (a kind, or 0 for the cold cutter). All five places are looked at, NONE where there is no kind: a loop of a
+// fixed length is unrolled.
+pub fn least_of(next: &[u64], gaps: &[u32], row: usize, goal: u32, weight: u64) -> Least
+    requires { ⌜ Ready (now next) (now gaps) row weight × (goal ≡ 1 → weight ≡ 1) ⌝ }
+    ensures { λ r. ⌜ r .cost ≡ stored (least (candidate (now (next .entry)) (now (gaps .entry)) row weight) 5) ⌝ }
+    ensures { λ r. ⌜ ((c : ℕ) → least (candidate (now (next .entry)) (now (gaps .entry)) row weight) 5 ≡ some c → r .kind ≡ argLeast (candidate (now (next .entry)) (now (gaps .entry)) row weight) 5) ⌝ }
 {
-    let kinds = stage.kinds;
     let mut best = Least {
         cost: NONE,
         kind: 0,
     };
     let mut x: usize = 0;
-    while x < kinds {
-        let cost = next_cost(table, left, gaps, strides, row, x, stage);
+    while x < 5 {
+        let cost = next_cost(next[x], gaps[5 * row + x], goal, weight);
         best = lower(best, cost, x + 1);
         x = x + 1;
     }
     best
+}
+
+// The entry of the next state by way of kind x (from 0), NONE where no job of it is left.
+fn next_value(
+    table: &[u64],
+    left: u32,
+    stride: usize,
+    x: usize,
+    kinds: usize,
+    block: usize,
+    index: usize,
+) -> u64
+    requires { ⌜ (x < kinds → 0 < left → (x * block + index < length (now table)) × (stride ≤ index)) ⌝ }
+    ensures { λ r. ⌜ r ≡ stored (only (leb (x + 1) kinds && ltb 0 left) (loaded (getD (now (table .entry)) (x * block + index - stride) 0))) ⌝ }
+{
+    if kinds <= x {
+        return NONE;
+    }
+    if left == 0 {
+        return NONE;
+    }
+    table[x * block + index - stride]
+}
+
+// The next states' entries, kind by kind, read once for all states with one k.
+pub fn load_next(
+    table: &[u64],
+    left: &[u32],
+    strides: &[usize],
+    kinds: usize,
+    block: usize,
+    index: usize,
+) -> [u64; 5]
+    requires { ⌜ Loadable (now table) (now left) (now strides) kinds block index ⌝ }
+    ensures { λ r. ⌜ r ≡ nextValues (now (table .entry)) (now (left .entry)) (now (strides .entry)) kinds block index ⌝ }
+{
+    let mut next = [NONE; 5];
+    let mut x: usize = 0;
+    while x < 5 {
+        next[x] = next_value(table, left[x], strides[x], x, kinds, block, index);
+        x = x + 1;
+    }
+    next
 }

@@ -1,9 +1,9 @@
 -- `solving::best_next` meets its contract: the least by the table is the recursion's.
 -- Assumes nothing.
-use mathlib.Core.Path.{ap, _∙_}
+use mathlib.Core.Path.{sym, ap, _∙_}
 use borrow.Author.Tests.{eq-eqb}
 use Rattle.table.specs.Entries.{stored}
-use Rattle.solving.proofs.Looking.{Look, may-look, weighs, stage, least-is, taken-is}
+use Rattle.solving.proofs.Looking.{Look, may-load, may-look, weighs, stage, least-by-table, taken-by-table}
 use borrow.Author.Needs.{needs}
 use Rattle.solving.proofs.best_next.Statement.{statement}
 use Rattle.solving.proofs.best_next.Tie as tie
@@ -27,18 +27,28 @@ stage-weight-requires c κs =
     let s = stage (look (c .before .before .before .before .before .before .before)) in
     (s .few, (s .left-long, (s .weights-long, (s .left-few, s .weights-few))))
 
-least-from-requires : tie.Need-least-from-requires
-least-from-requires c κs =
-    let weight = c .before .before .stage-weight .ensures in
-    let l = look (c .before .before .before .before .before .before .before .before .before .before) in
-    (rw (weight ∙ weighs l) (may-look l _ (c .before .before .before .before .before .before .before .before .before .before .pre .1 .1 .1 .1 .1 .1 .1)), λ e. weight ∙ rw (eq-eqb _ _ e))
+load-next-requires : tie.Need-load-next-requires
+load-next-requires c κs = may-load (look (c .before .before .before .before .before .before .before .before .before))
+
+slice-aggregate-least-of-2 : tie.Need-slice-aggregate-least-of-2
+slice-aggregate-least-of-2 c = sym (look (c .before .before .before .before .before .before .before .before .before .before .before .before) .sized .gaps)
+
+least-of-requires : tie.Need-least-of-requires
+least-of-requires c κs =
+    let weight = c .before .before .before .before .stage-weight .ensures in
+    let start = c .before .before .before .before .before .before .before .before .before .before .before .before in
+    let l = look start in
+    (rw (c .before .before .load-next .ensures, weight ∙ weighs l) (may-look l _ (start .pre .1 .1 .1 .1 .1 .1 .1)), λ e. weight ∙ rw (eq-eqb _ _ e))
 
 returns : tie.Need-returns
 returns c =
-    let l = look (c .before .before .before .before .before .before .before .before .before .before .before) in
-    let weight = c .before .before .before .stage-weight .ensures ∙ weighs l in
-    let row = c .before .before .before .before .before .before .before .before .before .before .before .args .row in
-    ((rw weight at (c .least-from .ensures .0)) ∙ ap stored (least-is l row), λ d e. (rw weight at (c .least-from .ensures .1)) d (least-is l row ∙ e) ∙ taken-is l row)
+    let start = c .before .before .before .before .before .before .before .before .before .before .before .before .before in
+    let l = look start in
+    let next = c .before .before .before .load-next .ensures in
+    let weight = c .before .before .before .before .before .stage-weight .ensures ∙ weighs l in
+    let row = start .args .row in
+    let found = rw (next, weight) at (c .least-of .ensures) in
+    (found .0 ∙ ap stored (least-by-table l row), λ d e. found .1 d (least-by-table l row ∙ e) ∙ taken-by-table l row d e)
 
 pub best-next-spec : {M : Type 1} → statement M
 best-next-spec =
@@ -48,6 +58,8 @@ best-next-spec =
     (λ c. search needs)
     stage-weight-requires
     (λ c. search needs)
+    load-next-requires
     (λ c. search needs)
-    least-from-requires
+    slice-aggregate-least-of-2
+    least-of-requires
     returns)
