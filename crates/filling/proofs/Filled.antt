@@ -10,13 +10,13 @@ use native.Mathlib.Nat.{div-add-mod', mod-lt, div-lt-iff-lt-mul, mul-comm, mul-l
 use native.Mathlib.Numerals.{add-one}
 use native.Mathlib.Omega.{arith}
 use lib.Arith.{digits-mod}
-use lib.Dec.{ltb}
+use lib.Dec.{ltb, eqb}
 use lib.ListN.{length, getD, take, replicate}
 use borrow.Author.Tests.{lt-ltb, le-ltb}
 use Rattle.number.proofs.Steps.{below-or-not}
 use Rattle.queue.specs.declared.Queue.{Queue}
 use Rattle.queue.specs.Record.{Valid}
-use Rattle.sequencing.specs.Lists.{at, sum, sumBelow}
+use Rattle.sequencing.specs.Lists.{at, sum, weigh, sumBelow}
 use Rattle.sequencing.specs.States.{all, place}
 use Rattle.sequencing.specs.Recursion.{W, value}
 use Rattle.sequencing.specs.Entries.{index, digits, block, entries, entry, entryKind, entryLeft}
@@ -34,12 +34,14 @@ use Rattle.states.specs.Steps.{next}
 use Rattle.states.proofs.Stepping.{next-digits, digits-zero}
 use Rattle.table.specs.Entries.{stored, loaded, nextValues, candidate, permittedAt, filling, Loadable, Ready}
 use Rattle.table.proofs.Candidates.{length-next}
+use Rattle.marks.specs.Windows.{earliestOf, latestOf}
+use Rattle.marks.proofs.Windows.{permitted-within}
 use Rattle.filling.specs.declared.Shape.{Shape}
 use Rattle.setup.specs.Prepared.{Prepared}
-use Rattle.filling.specs.Staged.{Earlier, Arrays, weightOf, entryFrom, Staged}
+use Rattle.filling.specs.Staged.{Earlier, Arrays, entryFrom, Staged}
 use Rattle.filling.proofs.Values.{left-at, next-at, candidate-is, candidate-past, filling-is}
 use Rattle.filling.proofs.Staging.{sum-ext}
-use Rattle.setup.proofs.Preparing.{counts-all, counts-few, entries-fit}
+use Rattle.setup.proofs.Preparing.{counts-all, entries-fit}
 
 -- the lengths of a record's arrays
 pub record Sized (q : Queue) : Type 0 where
@@ -49,20 +51,18 @@ pub record Sized (q : Queue) : Type 0 where
   pub last : length (q .«last_places») ≡ 5
 
 module _ (q : Queue) where
-  abbrev pub arraysOf : (counts jobs strides left : List ℕ) → Arrays
-  arraysOf counts jobs strides left = record {
+  abbrev pub arraysOf : (strides left earliest latest : List ℕ) → Arrays
+  arraysOf strides left earliest latest = record {
     left = left;
-    counts = counts;
-    jobs = jobs;
+    earliest = earliest;
+    latest = latest;
     strides = strides;
     gaps = q .gaps;
     weights = q .weights;
-    first = q .«first_places»;
-    last = q .«last_places»;
   }
 
   abbrev pub shapeOf : ℕ → ℕ → Shape
-  shapeOf n i = record { kinds = q .kinds; block = n; index = i; goal = q .goal; «max_shift» = q .«max_shift»; jobs = q .jobs }
+  shapeOf n i = record { kinds = q .kinds; block = n; index = i; goal = q .goal; jobs = q .jobs }
 
   -- the states with index i that are feasible
   abbrev pub countAt : ℕ → ℕ
@@ -77,6 +77,48 @@ module _ (q : Queue) where
     pub done : Earlier (problem q) table i
     pub past : (n : ℕ) → entries (problem q) ≤ n → getD table n 0 ≡ getD table₀ n 0
     pub counted : feasible ≡ sumBelow countAt i
+
+-- the windows of the kinds past the first ones are right
+pub record Windows (q : Queue) (counts jobs left earliest latest : List ℕ) (changed : ℕ) : Type 0 where
+  pub few : changed ≤ q .kinds
+  pub earliest-long : length earliest ≡ 5
+  pub latest-long : length latest ≡ 5
+  pub firsts : (L : ℕ) → changed < L → L ≤ q .kinds → at earliest L ≡ earliestOf left counts jobs (q .«first_places») (q .«max_shift») L
+  pub lasts : (L : ℕ) → changed < L → L ≤ q .kinds → at latest L ≡ latestOf left counts jobs (q .«last_places») (q .«max_shift») L
+
+pub windows-none : (q : Queue) (counts jobs left : List ℕ) → Windows q counts jobs left (replicate 5 0) (replicate 5 0) (q .kinds)
+windows-none q counts jobs left = record {
+  few = omega arith;
+  earliest-long = refl;
+  latest-long = refl;
+  firsts = λ L l u. absurd (omega arith);
+  lasts = λ L l u. absurd (omega arith);
+}
+
+module _ (q : Queue) (counts jobs left earliest latest : List ℕ) where
+  -- those of the first kinds are set
+  pub windows-set : (changed : ℕ) → Windows q counts jobs left earliest latest changed → (earliest′ latest′ : List ℕ) → length earliest′ ≡ length earliest → length latest′ ≡ length latest
+      → ((L : ℕ) → 1 ≤ L → at earliest′ L ≡ cond (ltb changed L) (at earliest L) (earliestOf left counts jobs (q .«first_places») (q .«max_shift») L))
+      → ((L : ℕ) → 1 ≤ L → at latest′ L ≡ cond (ltb changed L) (at latest L) (latestOf left counts jobs (q .«last_places») (q .«max_shift») L))
+      → Windows q counts jobs left earliest′ latest′ 0
+  windows-set changed w earliest′ latest′ long long′ early late = record {
+    few = omega arith;
+    earliest-long = long ∙ w .earliest-long;
+    latest-long = long′ ∙ w .latest-long;
+    firsts = λ L l u. early L l ∙ elim (below-or-not changed L) [ inl b ↦ rw (lt-ltb changed L b) (w .firsts L b u) | inr b ↦ rw (le-ltb changed L b) ];
+    lasts = λ L l u. late L l ∙ elim (below-or-not changed L) [ inl b ↦ rw (lt-ltb changed L b) (w .lasts L b u) | inr b ↦ rw (le-ltb changed L b) ];
+  }
+
+  -- and stay right for the kinds whose counts stay
+  pub windows-step : Windows q counts jobs left earliest latest 0 → (left′ : List ℕ) (changed : ℕ) → changed ≤ q .kinds → ((L : ℕ) → changed < L → at left′ L ≡ at left L)
+      → Windows q counts jobs left′ earliest latest changed
+  windows-step w left′ changed few same = record {
+    few = few;
+    earliest-long = w .earliest-long;
+    latest-long = w .latest-long;
+    firsts = λ L l u. rw (same L l) (w .firsts L (omega arith) u);
+    lasts = λ L l u. rw (same L l) (w .lasts L (omega arith) u);
+  }
 
 pub sum-most : (f : ℕ → ℕ) (m n : ℕ) → ((l : ℕ) → l < n → f l ≤ m) → sumBelow f n ≤ n * m
 unfolding sumBelow
@@ -115,19 +157,9 @@ module _ (q : Queue) (v : Valid q) (sized : Sized q) (counts jobs strides : List
   k-few : (j : ℕ) → at (digits (all (problem q)) i) j ≤ 60
   k-few j = omega (arith, at-sum (digits (all (problem q)) i) j, left-small (problem q) (digits (all (problem q)) i) (left-digits (problem q) i), few-jobs q v)
 
-  pub weight-is : weightOf (arraysOf q counts jobs strides left) (shapeOf q n i) ≡ W (problem q) (digits (all (problem q)) i)
+  pub weight-is : cond (eqb (q .goal) 1) 1 (weigh (λ j. getD (q .weights) (j - 1) 0) (take (q .kinds) left)) ≡ W (problem q) (digits (all (problem q)) i)
   unfolding W
   weight-is = rw (w .here)
-
-  -- what an entry gets is its state's value
-  entry-is-value : (L : ℕ) → 1 ≤ L → L ≤ q .kinds → entryFrom table (arraysOf q counts jobs strides left) (shapeOf q n i) L ≡ value (problem q) L (digits (all (problem q)) i)
-  unfolding entryFrom
-  entry-is-value L l u =
-      let made : ℕ → ℕ → ℕ → Option ℕ = λ weight remaining place.
-      filling (nextValues table left strides (q .kinds) n i) (q .gaps) weight remaining (permittedAt left counts jobs (q .«first_places») (q .«last_places») place (q .«max_shift») L) L in
-      let same = ap sum (w .here) in
-      let there : q .jobs - sum (take (q .kinds) left) ≡ place (problem q) (digits (all (problem q)) i) = omega (arith, jobs-is q) in
-      (λ j. made (weight-is j) (same j) (there j)) ∙ filling-is q v counts jobs strides n p left i (w .here) in-block table (w .done) L l u
 
   -- what a stage may rely on
   pub loadable : Loadable table left strides (q .kinds) n i
@@ -157,25 +189,11 @@ module _ (q : Queue) (v : Valid q) (sized : Sized q) (counts jobs strides : List
           ≡ some (W (problem q) (digits (all (problem q)) i) * getD (q .gaps) (5 * L + (x - 1)) 0 + d)
       found-there x d e = rw e
 
-  pub staged : Staged table (arraysOf q counts jobs strides left) (shapeOf q n i)
-  staged = record {
-    few = v .kinds .1;
-    loadable = loadable;
-    ready = λ L l u. rw weight-is (ready L u);
-    counts-long = p .counts-long;
-    jobs-long = p .jobs-long;
-    left-long = w .left-long;
-    weights-long = sized .weights;
-    first-long = sized .first;
-    last-long = sized .last;
-    left-few = λ j b. omega (arith, left-at q v counts jobs strides n p left i (w .here) in-block (suc j) (omega arith) b, k-few (suc j));
-    counts-few = counts-few q v counts jobs (p .listed) (p .counts-long);
-    weights-few = λ j b. rw (minus j) at (v .weights (suc j) (omega arith) b);
-    all-left = rw (w .here) (omega (arith, left-small (problem q) (digits (all (problem q)) i) (left-digits (problem q) i), jobs-is q));
-  }
-    where
-      minus : (j : ℕ) → suc j - 1 ≡ j
-      minus j = omega arith
+  pub left-few : (j : ℕ) → j < q .kinds → getD left j 0 ≤ 60
+  left-few j b = omega (arith, left-at q v counts jobs strides n p left i (w .here) in-block (suc j) (omega arith) b, k-few (suc j))
+
+  pub weights-few : (j : ℕ) → j < q .kinds → getD (q .weights) j 0 ≤ 1000
+  weights-few j b = let e : suc j - 1 ≡ j = omega arith in rw e at (v .weights (suc j) (omega arith) b)
 
   -- entries of other indices stand elsewhere
   apart : (L M j : ℕ) → j < n → (j ≡ i → ⊥) → (L - 1) * n + j ≡ (M - 1) * n + i → ⊥
@@ -187,45 +205,73 @@ module _ (q : Queue) (v : Valid q) (sized : Sized q) (counts jobs strides : List
       let s : suc (L - 1) * n ≡ (L - 1) * n + n = suc-mul (L - 1) n in
       rw (← (p .size-is)) (omega (arith, mul-le-mul {n₁ = suc (L - 1)} {m₁ = n} {n₂ = q .kinds} {m₂ = n} (omega arith) (omega arith)))
 
-  module _ (table′ left′ : List ℕ) (more : ℕ) (long : length table′ ≡ length table)
-      (stores : (L : ℕ) → 1 ≤ L → L ≤ q .kinds → getD table′ ((L - 1) * n + i) 0 ≡ stored (entryFrom table (arraysOf q counts jobs strides left) (shapeOf q n i) L))
-      (others : (m : ℕ) → ((L : ℕ) → 1 ≤ L → L ≤ q .kinds → m ≡ (L - 1) * n + i → ⊥) → getD table′ m 0 ≡ getD table m 0)
-      (many : more ≡ sumBelow (λ l. found (entryFrom table (arraysOf q counts jobs strides left) (shapeOf q n i) (l + 1))) (q .kinds)) where
-    more-is : more ≡ countAt q i
-    more-is = many ∙ sum-ext _ _ (q .kinds) (λ l u. ap found (entry-is-value (l + 1) (omega arith) (omega arith) ∙ ap (λ (m : ℕ). value (problem q) m (digits (all (problem q)) i)) (add-one l)))
+  -- with the windows of all kinds right
+  module _ (earliest latest : List ℕ) (right : Windows q counts jobs left earliest latest 0) where
+    -- what an entry gets is its state's value
+    entry-is-value : (L : ℕ) → 1 ≤ L → L ≤ q .kinds → entryFrom table (arraysOf q strides left earliest latest) (shapeOf q n i) L ≡ value (problem q) L (digits (all (problem q)) i)
+    unfolding entryFrom
+    entry-is-value L l u =
+        let next = nextValues table left strides (q .kinds) n i in
+        let made : ℕ → ℕ → ℕ → Option ℕ = λ weight remaining place.
+        filling next (q .gaps) weight remaining (permittedAt left counts jobs (q .«first_places») (q .«last_places») place (q .«max_shift») L) L in
+        let same = ap sum (w .here) in
+        let there : q .jobs - sum (take (q .kinds) left) ≡ place (problem q) (digits (all (problem q)) i) = omega (arith, jobs-is q) in
+        rw (right .firsts L l u, right .lasts L l u, permitted-within left counts jobs (q .«first_places») (q .«last_places») (q .jobs - sum (take (q .kinds) left)) (q .«max_shift») L)
+        ((λ j. made (weight-is j) (same j) (there j)) ∙ filling-is q v counts jobs strides n p left i (w .here) in-block table (w .done) L l u)
 
-    stored-so-far : Earlier (problem q) table′ (i + 1)
-    stored-so-far L j l u b = elim (eq-or-lt-of-le {n = j} {m = i} (omega arith)) [
-      | inl e ↦ rw (e, ← (p .size-is)) (stores L l u ∙ ap stored (entry-is-value L l u))
-      | inr c ↦ rw (← (p .size-is)) (others ((L - 1) * n + j) (λ M a d. apart L M j (omega arith) (λ e. omega arith)) ∙ rw (p .size-is) (w .done L j l u c))
-    ]
-
-    pub filled-more : length left′ ≡ 5 → take (q .kinds) left′ ≡ next (take (q .kinds) counts) (take (q .kinds) left)
-        → Filled q table₀ table′ left′ (feasible + more) (i + 1)
-    unfolding sumBelow
-    filled-more left-long stepped = record {
-      long = long ∙ w .long;
-      left-long = left-long;
-      here = stepped ∙ rw (w .here, counts-all q v counts jobs (p .listed) (p .counts-long), add-one i) (next-digits (all (problem q)) i);
-      upto = omega (arith, in-block);
-      done = stored-so-far;
-      past = λ m b. others m (λ L l u e. omega (arith, below L l u)) ∙ w .past m b;
-      counted = rw (add-one i) (omega (arith, w .counted, more-is));
+    pub staged : Staged table (arraysOf q strides left earliest latest) (shapeOf q n i)
+    staged = record {
+      few = v .kinds .1;
+      loadable = loadable;
+      ready = λ L l u. rw weight-is (ready L u);
+      left-long = w .left-long;
+      earliest-long = right .earliest-long;
+      latest-long = right .latest-long;
+      weights-long = sized .weights;
+      left-few = left-few;
+      weights-few = weights-few;
+      all-left = rw (w .here) (omega (arith, left-small (problem q) (digits (all (problem q)) i) (left-digits (problem q) i), jobs-is q));
     }
 
-    pub count-fits : feasible + more < 2 ^ 64
-    count-fits =
-        omega (
-          arith,
-          w .counted,
-          more-is,
-          sum-most (countAt q) (q .kinds) i (λ j _. count-most q j),
-          count-most q i,
-          suc-mul i (q .kinds),
-          mul-le-mul {n₁ = suc i} {m₁ = q .kinds} {n₂ = block (problem q)} {m₂ = q .kinds} in-block (omega arith),
-          mul-comm (block (problem q)) (q .kinds),
-          entries-fit q v,
-        )
+    module _ (table′ left′ : List ℕ) (more : ℕ) (long : length table′ ≡ length table)
+        (stores : (L : ℕ) → 1 ≤ L → L ≤ q .kinds → getD table′ ((L - 1) * n + i) 0 ≡ stored (entryFrom table (arraysOf q strides left earliest latest) (shapeOf q n i) L))
+        (others : (m : ℕ) → ((L : ℕ) → 1 ≤ L → L ≤ q .kinds → m ≡ (L - 1) * n + i → ⊥) → getD table′ m 0 ≡ getD table m 0)
+        (many : more ≡ sumBelow (λ l. found (entryFrom table (arraysOf q strides left earliest latest) (shapeOf q n i) (l + 1))) (q .kinds)) where
+      more-is : more ≡ countAt q i
+      more-is = many ∙ sum-ext _ _ (q .kinds) (λ l u. ap found (entry-is-value (l + 1) (omega arith) (omega arith) ∙ ap (λ (m : ℕ). value (problem q) m (digits (all (problem q)) i)) (add-one l)))
+
+      stored-so-far : Earlier (problem q) table′ (i + 1)
+      stored-so-far L j l u b = elim (eq-or-lt-of-le {n = j} {m = i} (omega arith)) [
+        | inl e ↦ rw (e, ← (p .size-is)) (stores L l u ∙ ap stored (entry-is-value L l u))
+        | inr c ↦ rw (← (p .size-is)) (others ((L - 1) * n + j) (λ M a d. apart L M j (omega arith) (λ e. omega arith)) ∙ rw (p .size-is) (w .done L j l u c))
+      ]
+
+      pub filled-more : length left′ ≡ 5 → take (q .kinds) left′ ≡ next (take (q .kinds) counts) (take (q .kinds) left)
+          → Filled q table₀ table′ left′ (feasible + more) (i + 1)
+      unfolding sumBelow
+      filled-more left-long stepped = record {
+        long = long ∙ w .long;
+        left-long = left-long;
+        here = stepped ∙ rw (w .here, counts-all q v counts jobs (p .listed) (p .counts-long), add-one i) (next-digits (all (problem q)) i);
+        upto = omega (arith, in-block);
+        done = stored-so-far;
+        past = λ m b. others m (λ L l u e. omega (arith, below L l u)) ∙ w .past m b;
+        counted = rw (add-one i) (omega (arith, w .counted, more-is));
+      }
+
+      pub count-fits : feasible + more < 2 ^ 64
+      count-fits =
+          omega (
+            arith,
+            w .counted,
+            more-is,
+            sum-most (countAt q) (q .kinds) i (λ j _. count-most q j),
+            count-most q i,
+            suc-mul i (q .kinds),
+            mul-le-mul {n₁ = suc i} {m₁ = q .kinds} {n₂ = block (problem q)} {m₂ = q .kinds} in-block (omega arith),
+            mul-comm (block (problem q)) (q .kinds),
+            entries-fit q v,
+          )
 
 module _ (q : Queue) (v : Valid q) (n : ℕ) (size-is : n ≡ block (problem q)) (table₀ table left : List ℕ) (feasible i : ℕ) (w : Filled q table₀ table left feasible i) (h : n ≤ i) where
   all-filled : i ≡ block (problem q)

@@ -1,9 +1,9 @@
 -- What the table holds while it fills.
 use Prim.Native.Nat.{ℕ, _+_, _-_, _*_, _≤_, _<_}
-use mathlib.Core.Bool.{cond}
+use mathlib.Core.Bool.{Bool, cond, _&&_}
 use mathlib.Core.Option.{Option}
 use mathlib.Core.Path.{_≡_}
-use lib.Dec.{eqb}
+use lib.Dec.{leb, eqb}
 use mathlib.Core.List.{List}
 use lib.ListN.{length, getD, take}
 use Rattle.sequencing.specs.Lists.{sum, weigh}
@@ -11,7 +11,7 @@ use Rattle.sequencing.specs.Problem.{Problem}
 use Rattle.sequencing.specs.States.{all}
 use Rattle.sequencing.specs.Recursion.{value}
 use Rattle.sequencing.specs.Entries.{digits, block}
-use Rattle.table.specs.Entries.{stored, nextValues, permittedAt, filling, Loadable, Ready}
+use Rattle.table.specs.Entries.{stored, nextValues, filling, Loadable, Ready}
 use Rattle.filling.specs.declared.Shape.{Shape}
 
 -- the entries of the first i indices are filled
@@ -21,13 +21,11 @@ Earlier P table i = (L j : ℕ) → 1 ≤ L → L ≤ P .N → j < i → getD ta
 -- the arrays and numbers that an entry is computed from
 pub record Arrays : Type 0 where
   pub left : List ℕ
-  pub counts : List ℕ
-  pub jobs : List ℕ
+  pub earliest : List ℕ
+  pub latest : List ℕ
   pub strides : List ℕ
   pub gaps : List ℕ
   pub weights : List ℕ
-  pub first : List ℕ
-  pub last : List ℕ
 
 -- the k of a stage, its W and the place of its jobs
 abbrev pub kOf : Arrays → Shape → List ℕ
@@ -41,24 +39,25 @@ weightOf a n = cond (eqb (n .goal) 1) 1 (weigh (λ j. getD (a .weights) (j - 1) 
 abbrev pub nextOf : List ℕ → Arrays → Shape → List ℕ
 nextOf table a n = nextValues table (a .left) (a .strides) (n .kinds) (n .block) (n .index)
 
+-- whether the place of the jobs just cut lies in kind L's window
+abbrev pub inWindow : Arrays → Shape → ℕ → Bool
+inWindow a n L =
+    let place : ℕ = n .jobs - sum (kOf a n) in
+    leb (at (a .earliest) L) place && leb place (at (a .latest) L)
+
 -- what the entry of (L; k) gets
 unfoldable pub entryFrom : List ℕ → Arrays → Shape → ℕ → Option ℕ
-entryFrom table a n L =
-    filling (nextOf table a n) (a .gaps) (weightOf a n) (sum (kOf a n))
-    (permittedAt (a .left) (a .counts) (a .jobs) (a .first) (a .last) (n .jobs - sum (kOf a n)) (n .«max_shift») L) L
+entryFrom table a n L = filling (nextOf table a n) (a .gaps) (weightOf a n) (sum (kOf a n)) (inWindow a n L) L
 
 -- what a stage may rely on
 pub record Staged (table : List ℕ) (a : Arrays) (n : Shape) : Type 0 where
   pub few : n .kinds ≤ 5
   pub loadable : Loadable table (a .left) (a .strides) (n .kinds) (n .block) (n .index)
   pub ready : (L : ℕ) → 1 ≤ L → L ≤ n .kinds → Ready (nextOf table a n) (a .gaps) L (weightOf a n)
-  pub counts-long : length (a .counts) ≡ 5
-  pub jobs-long : length (a .jobs) ≡ 300
   pub left-long : length (a .left) ≡ 5
+  pub earliest-long : length (a .earliest) ≡ 5
+  pub latest-long : length (a .latest) ≡ 5
   pub weights-long : length (a .weights) ≡ 5
-  pub first-long : length (a .first) ≡ 5
-  pub last-long : length (a .last) ≡ 5
   pub left-few : (j : ℕ) → j < n .kinds → getD (a .left) j 0 ≤ 60
-  pub counts-few : (j : ℕ) → j < n .kinds → getD (a .counts) j 0 ≤ 60
   pub weights-few : (j : ℕ) → j < n .kinds → getD (a .weights) j 0 ≤ 1000
   pub all-left : sum (kOf a n) ≤ n .jobs

@@ -23,7 +23,6 @@ pub struct Shape {
     // The counts' part of the entry number.
     pub index: usize,
     pub goal: u32,
-    pub max_shift: u32,
     pub jobs: u32,
 }
 
@@ -31,42 +30,29 @@ pub struct Shape {
 fn fill_index(
     table: &mut [u64],
     left: &[u32],
-    counts: &[u32],
-    jobs: &[u32],
+    earliest: &[u32],
+    latest: &[u32],
     strides: &[usize],
     gaps: &[u32],
     weights: &[u32],
-    first: &[u32],
-    last: &[u32],
     shape: Shape,
 ) -> u64
-    requires { ⌜ Staged (now table) (record { left = now left; counts = now counts; jobs = now jobs; strides = now strides; gaps = now gaps; weights = now weights; first = now first; last = now last }) shape ⌝ }
+    requires { ⌜ Staged (now table) (record { left = now left; earliest = now earliest; latest = now latest; strides = now strides; gaps = now gaps; weights = now weights }) shape ⌝ }
     ensures { λ _. ⌜ length (now (table .exit)) ≡ length (now (table .entry)) ⌝ }
-    ensures { λ _. ⌜ ((L : ℕ) → 1 ≤ L → L ≤ shape .kinds → getD (now (table .exit)) ((L - 1) * shape .block + shape .index) 0 ≡ stored (entryFrom (now (table .entry)) (record { left = now (left .entry); counts = now (counts .entry); jobs = now (jobs .entry); strides = now (strides .entry); gaps = now (gaps .entry); weights = now (weights .entry); first = now (first .entry); last = now (last .entry) }) shape L)) ⌝ }
+    ensures { λ _. ⌜ ((L : ℕ) → 1 ≤ L → L ≤ shape .kinds → getD (now (table .exit)) ((L - 1) * shape .block + shape .index) 0 ≡ stored (entryFrom (now (table .entry)) (record { left = now (left .entry); earliest = now (earliest .entry); latest = now (latest .entry); strides = now (strides .entry); gaps = now (gaps .entry); weights = now (weights .entry) }) shape L)) ⌝ }
     ensures { λ _. ⌜ ((n : ℕ) → ((L : ℕ) → 1 ≤ L → L ≤ shape .kinds → n ≡ (L - 1) * shape .block + shape .index → ⊥) → getD (now (table .exit)) n 0 ≡ getD (now (table .entry)) n 0) ⌝ }
-    ensures { λ r. ⌜ r ≡ sumBelow (λ l. found (entryFrom (now (table .entry)) (record { left = now (left .entry); counts = now (counts .entry); jobs = now (jobs .entry); strides = now (strides .entry); gaps = now (gaps .entry); weights = now (weights .entry); first = now (first .entry); last = now (last .entry) }) shape (l + 1))) (shape .kinds) ⌝ }
+    ensures { λ r. ⌜ r ≡ sumBelow (λ l. found (entryFrom (now (table .entry)) (record { left = now (left .entry); earliest = now (earliest .entry); latest = now (latest .entry); strides = now (strides .entry); gaps = now (gaps .entry); weights = now (weights .entry) }) shape (l + 1))) (shape .kinds) ⌝ }
 {
     let kinds = shape.kinds;
     let remaining = states::total_left(left, kinds);
     let weight = states::stage_weight(shape.goal, left, weights, kinds);
     let place = shape.jobs - remaining;
-    let mut marks = [0u32; 5];
-    marks::mark_permitted(
-        left,
-        counts,
-        jobs,
-        first,
-        last,
-        place,
-        shape.max_shift,
-        kinds,
-        &mut marks,
-    );
     let next = table::load_next(table, left, strides, kinds, shape.block, shape.index);
     stages::fill_states(
         table,
         &next,
-        &marks,
+        earliest,
+        latest,
         gaps,
         Stage {
             kinds,
@@ -75,6 +61,7 @@ fn fill_index(
             goal: shape.goal,
             weight,
             remaining,
+            place,
         },
     )
 }
@@ -96,31 +83,42 @@ pub fn fill(queue: Queue, setup: Setup, table: &mut [u64]) -> u64
     let strides = setup.strides;
     let block = setup.block;
     let mut left = [0u32; 5];
+    let mut earliest = [0u32; 5];
+    let mut latest = [0u32; 5];
+    let mut changed = kinds;
     let mut feasible: u64 = 0;
     let mut index: usize = 0;
     while index < block {
+        marks::set_windows(
+            &left,
+            &counts,
+            &jobs,
+            &first,
+            &last,
+            queue.max_shift,
+            changed,
+            &mut earliest,
+            &mut latest,
+        );
         let shape = Shape {
             kinds,
             block,
             index,
             goal: queue.goal,
-            max_shift: queue.max_shift,
             jobs: queue.jobs,
         };
         feasible = feasible
             + fill_index(
                 table,
                 &left,
-                &counts,
-                &jobs,
+                &earliest,
+                &latest,
                 &strides,
                 &gaps,
                 &weights,
-                &first,
-                &last,
                 shape,
             );
-        states::step_left(&mut left, &counts, kinds);
+        changed = states::step_left(&mut left, &counts, kinds);
         index = index + 1;
     }
     feasible

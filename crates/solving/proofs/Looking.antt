@@ -8,12 +8,12 @@ use mathlib.Core.Path.{_≡_, refl, ap, ap₂, _∙_}
 use native.Mathlib.Nat.{mul-le-mul, suc-mul}
 use native.Mathlib.Omega.{arith}
 use lib.Arith.{digits-div, digits-mod}
-use lib.Dec.{ltb}
+use lib.Dec.{ltb, eqb}
 use lib.ListN.{length, getD, take}
 use borrow.Author.Tests.{lt-ltb}
 use Rattle.queue.specs.declared.Queue.{Queue}
 use Rattle.queue.specs.Record.{Valid}
-use Rattle.sequencing.specs.Lists.{sumBelow}
+use Rattle.sequencing.specs.Lists.{weigh, sumBelow}
 use Rattle.sequencing.specs.States.{all}
 use Rattle.sequencing.specs.Least.{least, argLeast}
 use Rattle.sequencing.specs.Recursion.{W, value, choice}
@@ -21,9 +21,9 @@ use Rattle.sequencing.specs.Entries.{digits, block, entries, entry, entryKind, 
 use Rattle.problem.specs.Problem.{problem}
 use Rattle.table.specs.Entries.{stored, nextValues, candidate, Loadable, Ready}
 use Rattle.setup.specs.Prepared.{Prepared}
-use Rattle.filling.specs.Staged.{Earlier, weightOf, Staged}
+use Rattle.filling.specs.Staged.{Earlier}
 use Rattle.filling.proofs.Values.{least-is, taken-is}
-use Rattle.filling.proofs.Filled.{Sized, arraysOf, shapeOf, countAt, Filled, loadable, ready, weight-is, staged}
+use Rattle.filling.proofs.Filled.{Sized, countAt, Filled, loadable, ready, weight-is, left-few, weights-few}
 
 -- a filled table, and the jobs left at an index
 pub record Look (q : Queue) (counts jobs strides : List ℕ) (n : ℕ) (table left : List ℕ) (i : ℕ) : Type 0 where
@@ -57,11 +57,14 @@ module _ {q : Queue} {counts jobs strides : List ℕ} {n : ℕ} {table left : Li
   pub may-look : (row : ℕ) → row ≤ q .kinds → Ready (nextValues table left strides (q .kinds) n i) (q .gaps) row (W (problem q) (digits (all (problem q)) i))
   may-look row u = ready q (l .valid) (l .sized) counts jobs strides n (l .prepared) table (l .room) table left (sumBelow (countAt q) i) i looking inside row u
 
-  pub weighs : weightOf (arraysOf q counts jobs strides left) (shapeOf q n i) ≡ W (problem q) (digits (all (problem q)) i)
+  pub weighs : cond (eqb (q .goal) 1) 1 (weigh (λ j. getD (q .weights) (j - 1) 0) (take (q .kinds) left)) ≡ W (problem q) (digits (all (problem q)) i)
   weighs = weight-is q (l .valid) (l .sized) counts jobs strides n (l .prepared) table (l .room) table left (sumBelow (countAt q) i) i looking inside
 
-  pub stage : Staged table (arraysOf q counts jobs strides left) (shapeOf q n i)
-  stage = staged q (l .valid) (l .sized) counts jobs strides n (l .prepared) table (l .room) table left (sumBelow (countAt q) i) i looking inside
+  pub few-left : (j : ℕ) → j < q .kinds → getD left j 0 ≤ 60
+  few-left = left-few q (l .valid) (l .sized) counts jobs strides n (l .prepared) table (l .room) table left (sumBelow (countAt q) i) i looking inside
+
+  pub few-pupils : (j : ℕ) → j < q .kinds → getD (q .weights) j 0 ≤ 1000
+  few-pupils = weights-few q (l .valid) (l .sized) counts jobs strides n (l .prepared) table (l .room) table left (sumBelow (countAt q) i) i looking inside
 
   module _ (row : ℕ) where
     abbrev from-row : ℕ → Option ℕ

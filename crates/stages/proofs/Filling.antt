@@ -1,7 +1,7 @@
 -- The entries of all states with one k, as the loop over the kinds stores them.
 -- Assumes nothing.
 use Prim.Native.Nat.{ℕ, _+_, _-_, _*_, _/_, _<_, _≤_}
-use mathlib.Core.Bool.{cond}
+use mathlib.Core.Bool.{Bool, cond, _&&_}
 use mathlib.Core.List.{List}
 use mathlib.Core.Logic.{_≢_}
 use mathlib.Core.Option.{Option, none, some}
@@ -10,7 +10,7 @@ use native.Mathlib.Numerals.{add-one}
 use native.Mathlib.Nat.{lt-of-lt-of-le}
 use native.Mathlib.Omega.{arith}
 use lib.Arith.{digits-lt, digits-div}
-use lib.Dec.{eqb}
+use lib.Dec.{leb, eqb}
 use lib.ListN.{length, getD, set, length-set}
 use lib.Seq.{getD-set-same, getD-set-other}
 use borrow.Author.Count.{below-more}
@@ -33,10 +33,13 @@ sum-more : (f : ℕ → ℕ) (n : ℕ) → sumBelow f (n + 1) ≡ sumBelow f n +
 unfolding sumBelow
 sum-more f n = rw add-one
 
-module _ (table₀ next marks gaps : List ℕ) (kinds block index weight remaining : ℕ) where
+module _ (table₀ next earliest latest gaps : List ℕ) (kinds block index weight remaining place : ℕ) where
+  abbrev inWindow : ℕ → Bool
+  inWindow L = leb (at earliest L) place && leb place (at latest L)
+
   -- what the state of kind L gets
   abbrev pub valueOf : ℕ → Option ℕ
-  valueOf L = filling next gaps weight remaining (eqb (at marks L) 1) L
+  valueOf L = filling next gaps weight remaining (inWindow L) L
 
   -- the first kinds have their entries, all else is as in table₀
   pub record FillingStates (table : List ℕ) (feasible kind : ℕ) : Type 0 where
@@ -62,18 +65,19 @@ module _ (table₀ next marks gaps : List ℕ) (kinds block index weight remaini
     value-fits : (L : ℕ) → Ready next gaps L weight → Fits (valueOf L)
     value-fits L r =
         let m = least (candidate next gaps L weight) 5 in
-        fits-only (eqb (at marks L) 1) (cond (eqb remaining 0) (some 0) m)
+        fits-only (inWindow L) (cond (eqb remaining 0) (some 0) m)
         (fits-cond (eqb remaining 0) (some 0) m (omega arith) (fits-least (candidate next gaps L weight) 5 (candidate-fits r)))
 
     module _ (h : kind < kinds) (i : index < block) (room : kinds * block ≤ length table₀) (r : Ready next gaps (kind + 1) weight) where
       pub filling-in : kind * block + index < length table
       filling-in = rw (w .long) (lt-of-lt-of-le (digits-lt h i) room)
 
-      pub filling-more : (value : ℕ) → value ≡ stored (filling next gaps weight remaining (eqb (getD marks kind 0) 1) (kind + 1))
+      pub filling-more : (value : ℕ) → value ≡ stored (filling next gaps weight remaining (leb (getD earliest kind 0) place && leb place (getD latest kind 0)) (kind + 1))
           → FillingStates (set table (kind * block + index) value) (feasible + found (loaded value)) (kind + 1)
       filling-more value got =
-          let mark : at marks (kind + 1) ≡ getD marks kind 0 = rw add-one in
-          let e : value ≡ stored (valueOf (kind + 1)) = rw mark got in
+          let first : at earliest (kind + 1) ≡ getD earliest kind 0 = rw add-one in
+          let last : at latest (kind + 1) ≡ getD latest kind 0 = rw add-one in
+          let e : value ≡ stored (valueOf (kind + 1)) = rw (first, last) got in
           let one : found (loaded value) ≡ found (valueOf (kind + 1)) = rw e (ap found (loaded-stored (valueOf (kind + 1)) (value-fits (kind + 1) r))) in
           let at = kind * block + index in
           record {

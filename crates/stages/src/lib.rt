@@ -1,7 +1,8 @@
 // The entries of all states with one k, stored and counted.
 ghost use mathlib.Core.Path.{_≡_};
 ghost use Prim.Native.Nat.{ℕ, _+_, _-_, _*_, _^_, _≤_, _<_};
-ghost use lib.Dec.{eqb};
+ghost use mathlib.Core.Bool.{_&&_};
+ghost use lib.Dec.{leb};
 ghost use lib.ListN.{length, getD};
 ghost use Rattle.sequencing.specs.Lists.{at, sumBelow};
 ghost use Rattle.sequencing.specs.Counts.{found};
@@ -19,14 +20,26 @@ pub struct Stage {
     pub weight: u64,
     // Jobs left.
     pub remaining: u32,
+    // The place of the job just cut.
+    pub place: u32,
 }
 
 // The value of one state, NONE where it is not feasible.
-fn state_value(next: &[u64], mark: u32, gaps: &[u32], kind: usize, stage: Stage) -> u64
+fn state_value(
+    next: &[u64],
+    earliest: u32,
+    latest: u32,
+    gaps: &[u32],
+    kind: usize,
+    stage: Stage,
+) -> u64
     requires { ⌜ Ready (now next) (now gaps) kind (stage .weight) × (stage .goal ≡ 1 → stage .weight ≡ 1) ⌝ }
-    ensures { λ r. ⌜ r ≡ stored (filling (now (next .entry)) (now (gaps .entry)) (stage .weight) (stage .remaining) (eqb mark 1) kind) ⌝ }
+    ensures { λ r. ⌜ r ≡ stored (filling (now (next .entry)) (now (gaps .entry)) (stage .weight) (stage .remaining) (leb earliest (stage .place) && leb (stage .place) latest) kind) ⌝ }
 {
-    if mark != 1 {
+    if stage.place < earliest {
+        return table::NONE;
+    }
+    if latest < stage.place {
         return table::NONE;
     }
     if stage.remaining == 0 {
@@ -52,15 +65,16 @@ fn counted(feasible: u64, value: u64) -> u64
 pub fn fill_states(
     table: &mut [u64],
     next: &[u64],
-    marks: &[u32],
+    earliest: &[u32],
+    latest: &[u32],
     gaps: &[u32],
     stage: Stage,
 ) -> u64
-    requires { ⌜ ((L : ℕ) → 1 ≤ L → L ≤ stage .kinds → Ready (now next) (now gaps) L (stage .weight)) × ((length (now marks) ≡ 5) × ((stage .kinds ≤ 5) × ((stage .goal ≡ 1 → stage .weight ≡ 1) × ((stage .index < stage .block) × (stage .kinds * stage .block ≤ length (now table)))))) ⌝ }
+    requires { ⌜ ((L : ℕ) → 1 ≤ L → L ≤ stage .kinds → Ready (now next) (now gaps) L (stage .weight)) × ((length (now earliest) ≡ 5) × ((length (now latest) ≡ 5) × ((stage .kinds ≤ 5) × ((stage .goal ≡ 1 → stage .weight ≡ 1) × ((stage .index < stage .block) × (stage .kinds * stage .block ≤ length (now table))))))) ⌝ }
     ensures { λ _. ⌜ length (now (table .exit)) ≡ length (now (table .entry)) ⌝ }
-    ensures { λ _. ⌜ ((L : ℕ) → 1 ≤ L → L ≤ stage .kinds → getD (now (table .exit)) ((L - 1) * stage .block + stage .index) 0 ≡ stored (filling (now (next .entry)) (now (gaps .entry)) (stage .weight) (stage .remaining) (eqb (at (now (marks .entry)) L) 1) L)) ⌝ }
+    ensures { λ _. ⌜ ((L : ℕ) → 1 ≤ L → L ≤ stage .kinds → getD (now (table .exit)) ((L - 1) * stage .block + stage .index) 0 ≡ stored (filling (now (next .entry)) (now (gaps .entry)) (stage .weight) (stage .remaining) (leb (at (now (earliest .entry)) L) (stage .place) && leb (stage .place) (at (now (latest .entry)) L)) L)) ⌝ }
     ensures { λ _. ⌜ ((n : ℕ) → ((L : ℕ) → 1 ≤ L → L ≤ stage .kinds → n ≡ (L - 1) * stage .block + stage .index → ⊥) → getD (now (table .exit)) n 0 ≡ getD (now (table .entry)) n 0) ⌝ }
-    ensures { λ r. ⌜ r ≡ sumBelow (λ l. found (filling (now (next .entry)) (now (gaps .entry)) (stage .weight) (stage .remaining) (eqb (at (now (marks .entry)) (l + 1)) 1) (l + 1))) (stage .kinds) ⌝ }
+    ensures { λ r. ⌜ r ≡ sumBelow (λ l. found (filling (now (next .entry)) (now (gaps .entry)) (stage .weight) (stage .remaining) (leb (at (now (earliest .entry)) (l + 1)) (stage .place) && leb (stage .place) (at (now (latest .entry)) (l + 1))) (l + 1))) (stage .kinds) ⌝ }
 {
     let kinds = stage.kinds;
     let block = stage.block;
@@ -68,7 +82,7 @@ pub fn fill_states(
     let mut feasible: u64 = 0;
     let mut kind: usize = 0;
     while kind < kinds {
-        let value = state_value(next, marks[kind], gaps, kind + 1, stage);
+        let value = state_value(next, earliest[kind], latest[kind], gaps, kind + 1, stage);
         table[kind * block + index] = value;
         feasible = counted(feasible, value);
         kind = kind + 1;

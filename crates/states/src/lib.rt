@@ -46,19 +46,21 @@ pub fn stage_weight(goal: u32, left: &[u32], weights: &[u32], kinds: usize) -> u
     weight_left(left, weights, kinds)
 }
 
-// Steps to the counts whose index is one more.
-pub fn step_left(left: &mut [u32], counts: &[u32], kinds: usize)
+// Steps to the counts whose index is one more; returns how many kinds' counts may have changed, the others keep theirs.
+pub fn step_left(left: &mut [u32], counts: &[u32], kinds: usize) -> usize
     requires { ⌜ (kinds ≤ 5) × ((length (now left) ≡ 5) × (length (now counts) ≡ 5)) ⌝ }
     ensures { λ _. ⌜ take kinds (now (left .exit)) ≡ next (take kinds (now (counts .entry))) (take kinds (now (left .entry))) ⌝ }
     ensures { λ _. ⌜ drop kinds (now (left .exit)) ≡ drop kinds (now (left .entry)) ⌝ }
+    ensures { λ r. ⌜ (r ≤ kinds) × ((L : ℕ) → r < L → at (now (left .exit)) L ≡ at (now (left .entry)) L) ⌝ }
 {
     let mut j: usize = 0;
     while j < kinds {
         if left[j] < counts[j] {
             left[j] = left[j] + 1;
-            return;
+            return j + 1;
         }
         left[j] = 0;
         j = j + 1;
     }
+    j
 }

@@ -1,8 +1,7 @@
 -- `filling::fill_index` meets its contract: the stage's numbers are those of the definition.
 -- Assumes nothing.
 use Prim.Native.Nat.{_+_}
-use mathlib.Core.Path.{refl, ap, _∙_}
-use native.Mathlib.Omega.{arith}
+use mathlib.Core.Path.{ap, _∙_}
 use borrow.Author.Tests.{eq-eqb}
 use Rattle.table.specs.Entries.{stored}
 use Rattle.sequencing.specs.Counts.{found}
@@ -12,36 +11,29 @@ use borrow.Author.Needs.{needs}
 use Rattle.filling.proofs.fill_index.Statement.{statement}
 use Rattle.filling.proofs.fill_index.Tie as tie
 
-mark-permitted-requires : tie.Need-mark-permitted-requires
-mark-permitted-requires c κs =
-    let staged = c .before .before .before .before .before .before .before .before .before .before .before .before .before .pre in
-    (staged .few, (staged .left-long, (staged .counts-long, (staged .jobs-long, (staged .first-long, (staged .last-long, (refl, staged .counts-few)))))))
-
 load-next-requires : tie.Need-load-next-requires
-load-next-requires c κs = c .before .before .before .before .before .before .before .before .before .before .before .before .before .before .before .before .pre .loadable
+load-next-requires c κs = c .before .before .before .before .before .before .before .before .before .before .before .pre .loadable
 
 fill-states-requires : tie.Need-fill-states-requires
 fill-states-requires c κs =
-    let staged = c .before .before .before .before .before .before .before .before .before .before .before .before .before .before .before .before .before .before .before .before .pre in
-    let weight = c .before .before .before .before .before .before .before .before .before .stage-weight .ensures in
-    ((λ L l u. rw (weight, c .before .before .before .load-next .ensures) (staged .ready L l u)), (c .before .before .before .before .before .before .mark-permitted .kept .1 .1 .1 .1 .1 .1 .1 .1 .0, (staged .few, ((λ e. weight ∙ rw (eq-eqb _ _ e)), (staged .loadable .index-in, staged .loadable .table-long)))))
+    let staged = c .before .before .before .before .before .before .before .before .before .before .before .before .before .before .pre in
+    let weight = c .before .before .before .before .before .stage-weight .ensures in
+    ((λ L l u. rw (weight, c .before .before .load-next .ensures) (staged .ready L l u)), (staged .earliest-long, (staged .latest-long, (staged .few, ((λ e. weight ∙ rw (eq-eqb _ _ e)), (staged .loadable .index-in, staged .loadable .table-long))))))
 
 returns : tie.Need-returns
 returns c =
-    let args = c .before .before .before .before .before .before .before .before .before .before .before .before .before .before .before .before .before .before .before .before .before .before .before .args in
+    let args = c .before .before .before .before .before .before .before .before .before .before .before .before .before .before .before .before .before .args in
     let a : Arrays = record {
       left = args .left .now;
-      counts = args .counts .now;
-      jobs = args .jobs .now;
+      earliest = args .earliest .now;
+      latest = args .latest .now;
       strides = args .strides .now;
       gaps = args .gaps .now;
       weights = args .weights .now;
-      first = args .first .now;
-      last = args .last .now;
     } in
     let fill = c .before .before .fill-states .ensures in
-    let entry = stage-entry (args .table .now) a (args .shape) _ _ _ _ (c .before .before .before .before .before .before .load-next .ensures) (c .before .before .before .before .before .before .before .before .before .before .before .before .stage-weight .ensures) (c .before .before .before .before .before .before .before .before .before .before .before .before .before .total-left .ensures) (c .before .before .before .before .before .before .before .before .before .mark-permitted .ensures) in
-    (fill .0, ((λ L l u. fill .1 .0 L l u ∙ ap stored (entry L l u)), (fill .1 .1 .0, fill .1 .1 .1 ∙ sum-ext _ _ _ (λ l u. ap found (entry (l + 1) (omega arith) (omega arith))))))
+    let entry = stage-entry (args .table .now) a (args .shape) _ _ _ (c .before .before .before .before .before .load-next .ensures) (c .before .before .before .before .before .before .before .before .stage-weight .ensures) (c .before .before .before .before .before .before .before .before .before .total-left .ensures) in
+    (fill .0, ((λ L l u. fill .1 .0 L l u ∙ ap stored (entry L)), (fill .1 .1 .0, fill .1 .1 .1 ∙ sum-ext _ _ _ (λ l u. ap found (entry (l + 1))))))
 
 pub fill-index-spec : {M : Type 1} → statement M
 fill-index-spec =
@@ -50,10 +42,7 @@ fill-index-spec =
     (λ c κs. search needs)
     (λ c κs. search needs)
     (λ c. search needs)
-    (λ c. search needs)
-    mark-permitted-requires
     load-next-requires
-    (λ c. search needs)
     (λ c. search needs)
     fill-states-requires
     (λ c. search needs)

@@ -3,7 +3,7 @@
 use mathlib.Core.Path.{sym, ap, _∙_}
 use borrow.Author.Tests.{eq-eqb}
 use Rattle.table.specs.Entries.{stored}
-use Rattle.solving.proofs.Looking.{Look, may-load, may-look, weighs, stage, least-by-table, taken-by-table}
+use Rattle.solving.proofs.Looking.{Look, may-load, may-look, weighs, few-left, few-pupils, least-by-table, taken-by-table}
 use borrow.Author.Needs.{needs}
 use Rattle.solving.proofs.best_next.Statement.{statement}
 use Rattle.solving.proofs.best_next.Tie as tie
@@ -24,8 +24,8 @@ look c =
 
 stage-weight-requires : tie.Need-stage-weight-requires
 stage-weight-requires c κs =
-    let s = stage (look (c .before .before .before .before .before .before .before)) in
-    (s .few, (s .left-long, (s .weights-long, (s .left-few, s .weights-few))))
+    let l = look (c .before .before .before .before .before .before .before) in
+    (l .valid .kinds .1, (l .long, (l .sized .weights, (few-left l, few-pupils l))))
 
 load-next-requires : tie.Need-load-next-requires
 load-next-requires c κs = may-load (look (c .before .before .before .before .before .before .before .before .before))

@@ -45,6 +45,7 @@ step-left-spec =
     (λ c. search needs)
     (λ c. search needs)
     (λ c. search needs)
+    (λ c. search needs)
     returns
     (λ c. search needs)
     (λ c. search needs)
