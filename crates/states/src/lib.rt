@@ -4,7 +4,7 @@ ghost use mathlib.Core.Bool.{cond};
 ghost use Prim.Native.Nat.{ℕ, _-_, _≤_, _<_};
 ghost use lib.Dec.{eqb};
 ghost use lib.ListN.{length, getD, take, drop};
-ghost use Rattle.sequencing.specs.Lists.{sum, weigh};
+ghost use Rattle.sequencing.specs.Lists.{at, sum, weigh};
 ghost use Rattle.states.specs.Steps.{next};
 
 // The jobs left of all kinds.
