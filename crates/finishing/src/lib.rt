@@ -20,7 +20,7 @@ pub struct Line {
 }
 
 // The kind of a job, 0 where the queue has no such job.
-pub fn kind_of(queue: Queue, job: u32) -> u32
+fn kind_of(queue: Queue, job: u32) -> u32
     ensures { λ r. ⌜ r ≡ kindIn (problem queue) job ⌝ }
 {
     if job < 1 {

@@ -2,7 +2,7 @@
 use Prim.Native.Nat.{ℕ, _+_, min}
 use Rattle.refusal.specs.declared.Answer.{Answer}
 use Rattle.refusal.specs.declared.Answer.the-variants.{Planned, Refused}
-use Rattle.planner.specs.declared.Tally.{Tally}
+use Rattle.tally.specs.declared.Tally.{Tally}
 
 -- one more, and 4294967295 once there
 abbrev pub raised : ℕ → ℕ

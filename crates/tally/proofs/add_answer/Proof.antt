@@ -1,9 +1,9 @@
--- `planner::add_answer` meets its contract: the fitting counter is raised.
+-- `tally::add_answer` meets its contract: the fitting counter is raised.
 -- Assumes nothing.
 
 use borrow.Author.Needs.{needs}
-use Rattle.planner.proofs.add_answer.Statement.{statement}
-use Rattle.planner.proofs.add_answer.Tie as tie
+use Rattle.tally.proofs.add_answer.Statement.{statement}
+use Rattle.tally.proofs.add_answer.Tie as tie
 
 returns : tie.Need-returns
 returns c = rw (c .before .enum-told .given .1, c .one-more .ensures)
