@@ -1,3 +1,4 @@
 pub mod Stepping
 pub mod Fronts
 pub mod Listing
+pub mod Sums
