@@ -12,6 +12,7 @@ use native.Mathlib.Omega.{arith}
 use lib.Arith.{digits-mod}
 use lib.Dec.{ltb, eqb}
 use lib.ListN.{length, getD, take, replicate}
+use lib.Seq.{length-take-le}
 use borrow.Author.Tests.{lt-ltb, le-ltb}
 use Rattle.number.proofs.Steps.{below-or-not}
 use Rattle.queue.specs.declared.Queue.{Queue}
@@ -22,15 +23,15 @@ use Rattle.sequencing.specs.Recursion.{W, value}
 use Rattle.sequencing.specs.Entries.{index, digits, block, entries, entry, entryKind, entryLeft}
 use Rattle.sequencing.specs.Counts.{found, feasibleStates}
 use Rattle.sequencing.proofs.AllJobs.{length-all, left-small}
-use Rattle.sequencing.proofs.Bounds.{choice-limit, limit-fits}
+use Rattle.sequencing.proofs.Bounds.{weigh-le, choice-limit, limit-fits}
 use Rattle.sequencing.proofs.Entries.{left-digits}
 use Rattle.sequencing.proofs.LoopOrder.{count-by-left}
 use Rattle.sequencing.proofs.Options.{none-some}
 use Rattle.sequencing.proofs.Radix.{size-pos}
-use Rattle.sequencing.proofs.Vectors.{at-sum}
+use Rattle.sequencing.proofs.Vectors.{at-sum, weigh-none}
 use Rattle.problem.specs.Problem.{problem}
 use Rattle.problem.proofs.Rule.{jobs-is, limits, few-jobs}
-use Rattle.states.specs.Steps.{next}
+use Rattle.states.specs.Steps.{next, Summed}
 use Rattle.states.proofs.Stepping.{next-digits, digits-zero}
 use Rattle.table.specs.Entries.{stored, loaded, nextValues, candidate, permittedAt, filling, Loadable, Ready}
 use Rattle.table.proofs.Candidates.{length-next}
@@ -58,11 +59,10 @@ module _ (q : Queue) where
     latest = latest;
     strides = strides;
     gaps = q .gaps;
-    weights = q .weights;
   }
 
-  abbrev pub shapeOf : ℕ → ℕ → Shape
-  shapeOf n i = record { kinds = q .kinds; block = n; index = i; goal = q .goal; jobs = q .jobs }
+  abbrev pub shapeOf : (n i remaining weight : ℕ) → Shape
+  shapeOf n i remaining weight = record { kinds = q .kinds; block = n; index = i; goal = q .goal; jobs = q .jobs; remaining = remaining; weight = weight }
 
   -- the states with index i that are feasible
   abbrev pub countAt : ℕ → ℕ
@@ -85,6 +85,21 @@ pub record Windows (q : Queue) (counts jobs left earliest latest : List ℕ) (ch
   pub latest-long : length latest ≡ 5
   pub firsts : (L : ℕ) → changed < L → L ≤ q .kinds → at earliest L ≡ earliestOf left counts jobs (q .«first_places») (q .«max_shift») L
   pub lasts : (L : ℕ) → changed < L → L ≤ q .kinds → at latest L ≡ latestOf left counts jobs (q .«last_places») (q .«max_shift») L
+
+take-zeros : (n m : ℕ) → n ≤ m → take n (replicate {A = ℕ} m 0) ≡ replicate n 0
+take-zeros zero m h = refl
+take-zeros (suc n) zero h = absurd (omega arith)
+take-zeros (suc n) (suc m) h = ap (λ (l : List ℕ). 0 ∷ l) (take-zeros n m (omega arith))
+
+sum-zeros : (n : ℕ) → sum (replicate n 0) ≡ 0
+unfolding sum
+sum-zeros zero = refl
+sum-zeros (suc n) = omega (arith, sum-zeros n)
+
+pub sums-none : (q : Queue) → Valid q → Summed (q .weights) (take (q .kinds) (replicate 5 0)) 0 0
+sums-none q v =
+    let zeros = take-zeros (q .kinds) 5 (v .kinds .1) in
+    rw zeros (record { jobs = sym (sum-zeros (q .kinds)); pupils = sym (weigh-none (λ j. getD (q .weights) (j - 1) 0) (replicate (q .kinds) 0) (sum-zeros (q .kinds))) })
 
 pub windows-none : (q : Queue) (counts jobs left : List ℕ) → Windows q counts jobs left (replicate 5 0) (replicate 5 0) (q .kinds)
 windows-none q counts jobs left = record {
@@ -131,11 +146,6 @@ found-most (some c) = omega arith
 
 count-most : (q : Queue) (i : ℕ) → countAt q i ≤ q .kinds
 count-most q i = omega (arith, sum-most (λ l. found (value (problem q) (suc l) (digits (all (problem q)) i))) 1 (q .kinds) (λ l _. found-most (value (problem q) (suc l) (digits (all (problem q)) i))))
-
-take-zeros : (n m : ℕ) → n ≤ m → take n (replicate {A = ℕ} m 0) ≡ replicate n 0
-take-zeros zero m h = refl
-take-zeros (suc n) zero h = absurd (omega arith)
-take-zeros (suc n) (suc m) h = ap (λ (l : List ℕ). 0 ∷ l) (take-zeros n m (omega arith))
 
 pub filled-none : (q : Queue) → Valid q → (table : List ℕ) → Filled q table table (replicate 5 0) 0 0
 unfolding sumBelow
@@ -205,38 +215,48 @@ module _ (q : Queue) (v : Valid q) (sized : Sized q) (counts jobs strides : List
       let s : suc (L - 1) * n ≡ (L - 1) * n + n = suc-mul (L - 1) n in
       rw (← (p .size-is)) (omega (arith, mul-le-mul {n₁ = suc (L - 1)} {m₁ = n} {n₂ = q .kinds} {m₂ = n} (omega arith) (omega arith)))
 
-  -- with the windows of all kinds right
-  module _ (earliest latest : List ℕ) (right : Windows q counts jobs left earliest latest 0) where
+  -- what stepping on may rely on
+  pub sums-fit : (remaining weight : ℕ) → Summed (q .weights) (take (q .kinds) left) remaining weight → (remaining < 2 ^ 31) × (weight < 2 ^ 63)
+  sums-fit remaining weight summed =
+      let k = take (q .kinds) left in
+      let few : sum k ≤ 60 = rw (w .here) (omega (arith, left-small (problem q) (digits (all (problem q)) i) (left-digits (problem q) i), few-jobs q v)) in
+      let long = length-take-le (q .kinds) left (omega (arith, w .left-long, v .kinds)) in
+      let most = weigh-le (λ j. getD (q .weights) (j - 1) 0) 1000 k (λ j l u. v .weights j l (omega (arith, long))) in
+      (omega (arith, summed .jobs), omega (arith, summed .pupils, most))
+
+  -- with the windows of all kinds right, and the sums of k
+  module _ (earliest latest : List ℕ) (right : Windows q counts jobs left earliest latest 0) (remaining weight : ℕ) (summed : Summed (q .weights) (take (q .kinds) left) remaining weight) where
+    stage-weight : cond (eqb (q .goal) 1) 1 weight ≡ W (problem q) (digits (all (problem q)) i)
+    stage-weight = rw (summed .pupils) weight-is
+
+    jobs-left : remaining ≡ sum (digits (all (problem q)) i)
+    jobs-left = summed .jobs ∙ ap sum (w .here)
+
     -- what an entry gets is its state's value
-    entry-is-value : (L : ℕ) → 1 ≤ L → L ≤ q .kinds → entryFrom table (arraysOf q strides left earliest latest) (shapeOf q n i) L ≡ value (problem q) L (digits (all (problem q)) i)
+    entry-is-value : (L : ℕ) → 1 ≤ L → L ≤ q .kinds → entryFrom table (arraysOf q strides left earliest latest) (shapeOf q n i remaining weight) L ≡ value (problem q) L (digits (all (problem q)) i)
     unfolding entryFrom
     entry-is-value L l u =
         let next = nextValues table left strides (q .kinds) n i in
         let made : ℕ → ℕ → ℕ → Option ℕ = λ weight remaining place.
         filling next (q .gaps) weight remaining (permittedAt left counts jobs (q .«first_places») (q .«last_places») place (q .«max_shift») L) L in
-        let same = ap sum (w .here) in
-        let there : q .jobs - sum (take (q .kinds) left) ≡ place (problem q) (digits (all (problem q)) i) = omega (arith, jobs-is q) in
-        rw (right .firsts L l u, right .lasts L l u, permitted-within left counts jobs (q .«first_places») (q .«last_places») (q .jobs - sum (take (q .kinds) left)) (q .«max_shift») L)
-        ((λ j. made (weight-is j) (same j) (there j)) ∙ filling-is q v counts jobs strides n p left i (w .here) in-block table (w .done) L l u)
+        let there : q .jobs - remaining ≡ place (problem q) (digits (all (problem q)) i) = omega (arith, jobs-is q, jobs-left) in
+        rw (right .firsts L l u, right .lasts L l u, permitted-within left counts jobs (q .«first_places») (q .«last_places») (q .jobs - remaining) (q .«max_shift») L)
+        ((λ j. made (stage-weight j) (jobs-left j) (there j)) ∙ filling-is q v counts jobs strides n p left i (w .here) in-block table (w .done) L l u)
 
-    pub staged : Staged table (arraysOf q strides left earliest latest) (shapeOf q n i)
+    pub staged : Staged table (arraysOf q strides left earliest latest) (shapeOf q n i remaining weight)
     staged = record {
       few = v .kinds .1;
       loadable = loadable;
-      ready = λ L l u. rw weight-is (ready L u);
-      left-long = w .left-long;
+      ready = λ L l u. rw stage-weight (ready L u);
       earliest-long = right .earliest-long;
       latest-long = right .latest-long;
-      weights-long = sized .weights;
-      left-few = left-few;
-      weights-few = weights-few;
-      all-left = rw (w .here) (omega (arith, left-small (problem q) (digits (all (problem q)) i) (left-digits (problem q) i), jobs-is q));
+      all-left = omega (arith, jobs-left, left-small (problem q) (digits (all (problem q)) i) (left-digits (problem q) i), jobs-is q);
     }
 
     module _ (table′ left′ : List ℕ) (more : ℕ) (long : length table′ ≡ length table)
-        (stores : (L : ℕ) → 1 ≤ L → L ≤ q .kinds → getD table′ ((L - 1) * n + i) 0 ≡ stored (entryFrom table (arraysOf q strides left earliest latest) (shapeOf q n i) L))
+        (stores : (L : ℕ) → 1 ≤ L → L ≤ q .kinds → getD table′ ((L - 1) * n + i) 0 ≡ stored (entryFrom table (arraysOf q strides left earliest latest) (shapeOf q n i remaining weight) L))
         (others : (m : ℕ) → ((L : ℕ) → 1 ≤ L → L ≤ q .kinds → m ≡ (L - 1) * n + i → ⊥) → getD table′ m 0 ≡ getD table m 0)
-        (many : more ≡ sumBelow (λ l. found (entryFrom table (arraysOf q strides left earliest latest) (shapeOf q n i) (l + 1))) (q .kinds)) where
+        (many : more ≡ sumBelow (λ l. found (entryFrom table (arraysOf q strides left earliest latest) (shapeOf q n i remaining weight) (l + 1))) (q .kinds)) where
       more-is : more ≡ countAt q i
       more-is = many ∙ sum-ext _ _ (q .kinds) (λ l u. ap found (entry-is-value (l + 1) (omega arith) (omega arith) ∙ ap (λ (m : ℕ). value (problem q) m (digits (all (problem q)) i)) (add-one l)))
 

@@ -5,8 +5,8 @@ use mathlib.Core.Option.{Option}
 use mathlib.Core.Path.{_≡_}
 use lib.Dec.{leb, eqb}
 use mathlib.Core.List.{List}
-use lib.ListN.{length, getD, take}
-use Rattle.sequencing.specs.Lists.{at, sum, weigh}
+use lib.ListN.{length, getD}
+use Rattle.sequencing.specs.Lists.{at}
 use Rattle.sequencing.specs.Problem.{Problem}
 use Rattle.sequencing.specs.States.{all}
 use Rattle.sequencing.specs.Recursion.{value}
@@ -25,15 +25,10 @@ pub record Arrays : Type 0 where
   pub latest : List ℕ
   pub strides : List ℕ
   pub gaps : List ℕ
-  pub weights : List ℕ
 
--- the k of a stage, its W and the place of its jobs
-abbrev pub kOf : Arrays → Shape → List ℕ
-kOf a n = take (n .kinds) (a .left)
-
--- 01's W, by the arrays: 1 under goal 1, the sum of k_j × w_j under goal 2
-abbrev pub weightOf : Arrays → Shape → ℕ
-weightOf a n = cond (eqb (n .goal) 1) 1 (weigh (λ j. getD (a .weights) (j - 1) 0) (kOf a n))
+-- 01's W: 1 under goal 1, the sum of k_j × w_j under goal 2
+abbrev pub weightOf : Shape → ℕ
+weightOf n = cond (eqb (n .goal) 1) 1 (n .weight)
 
 -- the entries of the states that follow k
 abbrev pub nextOf : List ℕ → Arrays → Shape → List ℕ
@@ -42,22 +37,18 @@ nextOf table a n = nextValues table (a .left) (a .strides) (n .kinds) (n .block)
 -- whether the place of the jobs just cut lies in kind L's window
 abbrev pub inWindow : Arrays → Shape → ℕ → Bool
 inWindow a n L =
-    let place : ℕ = n .jobs - sum (kOf a n) in
+    let place : ℕ = n .jobs - n .remaining in
     leb (at (a .earliest) L) place && leb place (at (a .latest) L)
 
 -- what the entry of (L; k) gets
 unfoldable pub entryFrom : List ℕ → Arrays → Shape → ℕ → Option ℕ
-entryFrom table a n L = filling (nextOf table a n) (a .gaps) (weightOf a n) (sum (kOf a n)) (inWindow a n L) L
+entryFrom table a n L = filling (nextOf table a n) (a .gaps) (weightOf n) (n .remaining) (inWindow a n L) L
 
 -- what a stage may rely on
 pub record Staged (table : List ℕ) (a : Arrays) (n : Shape) : Type 0 where
   pub few : n .kinds ≤ 5
   pub loadable : Loadable table (a .left) (a .strides) (n .kinds) (n .block) (n .index)
-  pub ready : (L : ℕ) → 1 ≤ L → L ≤ n .kinds → Ready (nextOf table a n) (a .gaps) L (weightOf a n)
-  pub left-long : length (a .left) ≡ 5
+  pub ready : (L : ℕ) → 1 ≤ L → L ≤ n .kinds → Ready (nextOf table a n) (a .gaps) L (weightOf n)
   pub earliest-long : length (a .earliest) ≡ 5
   pub latest-long : length (a .latest) ≡ 5
-  pub weights-long : length (a .weights) ≡ 5
-  pub left-few : (j : ℕ) → j < n .kinds → getD (a .left) j 0 ≤ 60
-  pub weights-few : (j : ℕ) → j < n .kinds → getD (a .weights) j 0 ≤ 1000
-  pub all-left : sum (kOf a n) ≤ n .jobs
+  pub all-left : n .remaining ≤ n .jobs

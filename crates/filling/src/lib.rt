@@ -2,6 +2,7 @@
 use queue::Queue;
 use setup::Setup;
 use stages::Stage;
+use states::Step;
 ghost use mathlib.Core.Path.{_≡_};
 ghost use mathlib.Core.Bool.{cond};
 ghost use Prim.Native.Nat.{ℕ, _+_, _-_, _*_, _≤_, _<_};
@@ -24,6 +25,9 @@ pub struct Shape {
     pub index: usize,
     pub goal: u32,
     pub jobs: u32,
+    // Jobs left, and their weight.
+    pub remaining: u32,
+    pub weight: u64,
 }
 
 // Stores the entries of all states with one k; returns how many of them hold a value.
@@ -34,19 +38,17 @@ fn fill_index(
     latest: &[u32],
     strides: &[usize],
     gaps: &[u32],
-    weights: &[u32],
     shape: Shape,
 ) -> u64
-    requires { ⌜ Staged (now table) (record { left = now left; earliest = now earliest; latest = now latest; strides = now strides; gaps = now gaps; weights = now weights }) shape ⌝ }
+    requires { ⌜ Staged (now table) (record { left = now left; earliest = now earliest; latest = now latest; strides = now strides; gaps = now gaps }) shape ⌝ }
     ensures { λ _. ⌜ length (now (table .exit)) ≡ length (now (table .entry)) ⌝ }
-    ensures { λ _. ⌜ ((L : ℕ) → 1 ≤ L → L ≤ shape .kinds → getD (now (table .exit)) ((L - 1) * shape .block + shape .index) 0 ≡ stored (entryFrom (now (table .entry)) (record { left = now (left .entry); earliest = now (earliest .entry); latest = now (latest .entry); strides = now (strides .entry); gaps = now (gaps .entry); weights = now (weights .entry) }) shape L)) ⌝ }
+    ensures { λ _. ⌜ ((L : ℕ) → 1 ≤ L → L ≤ shape .kinds → getD (now (table .exit)) ((L - 1) * shape .block + shape .index) 0 ≡ stored (entryFrom (now (table .entry)) (record { left = now (left .entry); earliest = now (earliest .entry); latest = now (latest .entry); strides = now (strides .entry); gaps = now (gaps .entry) }) shape L)) ⌝ }
     ensures { λ _. ⌜ ((n : ℕ) → ((L : ℕ) → 1 ≤ L → L ≤ shape .kinds → n ≡ (L - 1) * shape .block + shape .index → ⊥) → getD (now (table .exit)) n 0 ≡ getD (now (table .entry)) n 0) ⌝ }
-    ensures { λ r. ⌜ r ≡ sumBelow (λ l. found (entryFrom (now (table .entry)) (record { left = now (left .entry); earliest = now (earliest .entry); latest = now (latest .entry); strides = now (strides .entry); gaps = now (gaps .entry); weights = now (weights .entry) }) shape (l + 1))) (shape .kinds) ⌝ }
+    ensures { λ r. ⌜ r ≡ sumBelow (λ l. found (entryFrom (now (table .entry)) (record { left = now (left .entry); earliest = now (earliest .entry); latest = now (latest .entry); strides = now (strides .entry); gaps = now (gaps .entry) }) shape (l + 1))) (shape .kinds) ⌝ }
 {
     let kinds = shape.kinds;
-    let remaining = states::total_left(left, kinds);
-    let weight = states::stage_weight(shape.goal, left, weights, kinds);
-    let place = shape.jobs - remaining;
+    let weight = states::stage_weight(shape.goal, shape.weight);
+    let place = shape.jobs - shape.remaining;
     let next = table::load_next(table, left, strides, kinds, shape.block, shape.index);
     stages::fill_states(
         table,
@@ -60,7 +62,7 @@ fn fill_index(
             index: shape.index,
             goal: shape.goal,
             weight,
-            remaining,
+            remaining: shape.remaining,
             place,
         },
     )
@@ -85,7 +87,11 @@ pub fn fill(queue: Queue, setup: Setup, table: &mut [u64]) -> u64
     let mut left = [0u32; 5];
     let mut earliest = [0u32; 5];
     let mut latest = [0u32; 5];
-    let mut changed = kinds;
+    let mut step = Step {
+        changed: kinds,
+        remaining: 0,
+        weight: 0,
+    };
     let mut feasible: u64 = 0;
     let mut index: usize = 0;
     while index < block {
@@ -96,7 +102,7 @@ pub fn fill(queue: Queue, setup: Setup, table: &mut [u64]) -> u64
             &first,
             &last,
             queue.max_shift,
-            changed,
+            step.changed,
             &mut earliest,
             &mut latest,
         );
@@ -106,19 +112,11 @@ pub fn fill(queue: Queue, setup: Setup, table: &mut [u64]) -> u64
             index,
             goal: queue.goal,
             jobs: queue.jobs,
+            remaining: step.remaining,
+            weight: step.weight,
         };
-        feasible = feasible
-            + fill_index(
-                table,
-                &left,
-                &earliest,
-                &latest,
-                &strides,
-                &gaps,
-                &weights,
-                shape,
-            );
-        changed = states::step_left(&mut left, &counts, kinds);
+        feasible = feasible + fill_index(table, &left, &earliest, &latest, &strides, &gaps, shape);
+        step = states::step_left(&mut left, &counts, &weights, kinds, step);
         index = index + 1;
     }
     feasible

@@ -23,7 +23,7 @@ use Rattle.sequencing.proofs.Least.{smallest}
 use Rattle.sequencing.proofs.Equations.{cost-none-left, cost-some-left}
 use Rattle.sequencing.proofs.Recursion.{value-some, choice-some}
 
-weigh-le : (f : ℕ → ℕ) (w : ℕ) (k : List ℕ) → ((j : ℕ) → 1 ≤ j → j ≤ length k → f j ≤ w) → weigh f k ≤ sum k * w
+pub weigh-le : (f : ℕ → ℕ) (w : ℕ) (k : List ℕ) → ((j : ℕ) → 1 ≤ j → j ≤ length k → f j ≤ w) → weigh f k ≤ sum k * w
 unfolding weigh sum
 weigh-le f w [] h = omega arith
 weigh-le f w (c ∷ cs) h = rw (add-mul c (sum cs) w)

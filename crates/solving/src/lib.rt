@@ -43,7 +43,8 @@ pub fn best_next(
     let gaps = queue.gaps;
     let weights = queue.weights;
     let strides = setup.strides;
-    let weight = states::stage_weight(queue.goal, left, &weights, kinds);
+    let pupils = states::weight_left(left, &weights, kinds);
+    let weight = states::stage_weight(queue.goal, pupils);
     let next = table::load_next(table, left, &strides, kinds, setup.block, index);
     table::least_of(&next, &gaps, row, queue.goal, weight)
 }

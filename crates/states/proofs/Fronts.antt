@@ -8,15 +8,10 @@ use native.Mathlib.Omega.{arith}
 use native.Mathlib.Nat.{mul-assoc, mul-one, one-mul, mul-le-mul, pow-suc, pow-le-pow-right, eq-or-lt-of-le}
 use lib.ListN.{length, getD, take, set, length-set}
 use lib.Seq.{take-suc, take-take, length-take-le, getD-set-same, getD-set-other}
-use Rattle.sequencing.specs.Lists.{at, sum, weigh}
+use Rattle.sequencing.specs.Lists.{at, weigh}
 use Rattle.sequencing.specs.Entries.{size, stride}
 
 -- ---- one number more
-
-sum-more : (xs : List ℕ) (x : ℕ) → sum (xs ++ (x ∷ [])) ≡ sum xs + x
-unfolding sum
-sum-more [] x = omega arith
-sum-more (c ∷ cs) x = omega (arith, sum-more cs x)
 
 weigh-more : (f : ℕ → ℕ) (xs : List ℕ) (x : ℕ) → weigh f (xs ++ (x ∷ [])) ≡ weigh f xs + x * f (suc (length xs))
 unfolding weigh
@@ -53,23 +48,7 @@ module _ (of : List ℕ → ℕ) (most : ℕ → ℕ) (counts : List ℕ) (kinds
   pub front-done : kinds ≤ j → total ≡ of (take kinds counts)
   front-done h = let e : kinds ≡ j = omega (arith, w .few) in w .means ∙ rw e
 
--- ---- jobs left
-
--- at most 60 of a kind
-abbrev pub Adding : List ℕ → ℕ → ℕ → ℕ → Type 0
-Adding = Front sum (λ j. 60 * j)
-
-module _ (left : List ℕ) (kinds : ℕ) where
-  pub adding-none : Adding left kinds 0 0
-  unfolding sum
-  adding-none = record { few = omega arith; means = refl; small = omega arith }
-
-  pub adding-more : kinds ≤ length left → ((j : ℕ) → j < kinds → getD left j 0 ≤ 60) → (total j : ℕ) → Adding left kinds total j → j < kinds
-      → Adding left kinds (total + getD left j 0) (j + 1)
-  adding-more r b total j w h =
-      front-more sum (λ j. 60 * j) left kinds total j w r h (total + getD left j 0) (sum-more (take j left) (getD left j 0) ∙ rw (w .means)) (omega (arith, b j h, w .small))
-
--- ---- their weight
+-- ---- the weight of jobs left
 
 -- at most 60 of a kind, each with at most 1000 pupils waiting
 pub record Weighing (weights left : List ℕ) (kinds total j : ℕ) : Type 0 where

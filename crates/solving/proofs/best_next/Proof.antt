@@ -22,32 +22,30 @@ look c =
       within = p .1 .1 .1 .1 .1 .1 .0;
     }
 
-stage-weight-requires : tie.Need-stage-weight-requires
-stage-weight-requires c κs =
+weight-left-requires : tie.Need-weight-left-requires
+weight-left-requires c κs =
     let l = look (c .before .before .before .before .before .before .before) in
     (l .valid .kinds .1, (l .long, (l .sized .weights, (few-left l, few-pupils l))))
 
 load-next-requires : tie.Need-load-next-requires
-load-next-requires c κs = may-load (look (c .before .before .before .before .before .before .before .before .before))
+load-next-requires c κs = may-load (look (c .before .before .before .before .before .before .before .before .before .before))
 
 slice-aggregate-least-of-2 : tie.Need-slice-aggregate-least-of-2
-slice-aggregate-least-of-2 c = sym (look (c .before .before .before .before .before .before .before .before .before .before .before .before) .sized .gaps)
+slice-aggregate-least-of-2 c = sym (look (c .before .before .before .before .before .before .before .before .before .before .before .before .before) .sized .gaps)
 
 least-of-requires : tie.Need-least-of-requires
 least-of-requires c κs =
-    let weight = c .before .before .before .before .stage-weight .ensures in
-    let start = c .before .before .before .before .before .before .before .before .before .before .before .before in
+    let start = c .before .before .before .before .before .before .before .before .before .before .before .before .before in
     let l = look start in
-    (rw (c .before .before .load-next .ensures, weight ∙ weighs l) (may-look l _ (start .pre .1 .1 .1 .1 .1 .1 .1)), λ e. weight ∙ rw (eq-eqb _ _ e))
+    let weight = c .before .before .before .before .stage-weight .ensures in
+    (rw (c .before .before .load-next .ensures, weight, c .before .before .before .before .before .weight-left .ensures, weighs l) (may-look l _ (start .pre .1 .1 .1 .1 .1 .1 .1)), λ e. weight ∙ rw (eq-eqb _ _ e))
 
 returns : tie.Need-returns
 returns c =
-    let start = c .before .before .before .before .before .before .before .before .before .before .before .before .before in
+    let start = c .before .before .before .before .before .before .before .before .before .before .before .before .before .before in
     let l = look start in
-    let next = c .before .before .before .load-next .ensures in
-    let weight = c .before .before .before .before .before .stage-weight .ensures ∙ weighs l in
     let row = start .args .row in
-    let found = rw (next, weight) at (c .least-of .ensures) in
+    let found = rw (c .before .before .before .load-next .ensures, c .before .before .before .before .before .stage-weight .ensures, c .before .before .before .before .before .before .weight-left .ensures, weighs l) at (c .least-of .ensures) in
     (found .0 ∙ ap stored (least-by-table l row), λ d e. found .1 d (least-by-table l row ∙ e) ∙ taken-by-table l row d e)
 
 pub best-next-spec : {M : Type 1} → statement M
@@ -56,7 +54,8 @@ best-next-spec =
     (tie.spec
     (λ c. search needs)
     (λ c. search needs)
-    stage-weight-requires
+    weight-left-requires
+    (λ c κs. search needs)
     (λ c. search needs)
     load-next-requires
     (λ c. search needs)
