@@ -20,7 +20,7 @@ pub fn make_plan(queue: Queue, table: &mut [u64], buffer: &mut [u8]) -> Answer
     ensures { λ _. ⌜ Leaves (solved queue (planCost (problem queue))) (now (table .entry)) (now (buffer .entry)) (now (table .exit)) (now (buffer .exit)) ⌝ }
 {
     let solution = solving::solve(queue, table);
-    if solution.cost == 18446744073709551615 {
+    if solution.cost == table::NONE {
         return Answer::Refused(Reason::Order);
     }
     let order = following::follow(queue, solution.setup, table);
