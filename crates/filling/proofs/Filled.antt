@@ -35,8 +35,8 @@ use Rattle.states.specs.Steps.{next, Summed}
 use Rattle.states.proofs.Stepping.{next-digits, digits-zero}
 use Rattle.table.specs.Entries.{stored, loaded, nextValues, candidate, permittedAt, filling, Loadable, Ready}
 use Rattle.table.proofs.Candidates.{length-next}
-use Rattle.marks.specs.Windows.{earliestOf, latestOf}
-use Rattle.marks.proofs.Windows.{permitted-within}
+use Rattle.windows.specs.Windows.{earliestOf, latestOf}
+use Rattle.windows.proofs.Windows.{permitted-within}
 use Rattle.filling.specs.declared.Shape.{Shape}
 use Rattle.setup.specs.Prepared.{Prepared}
 use Rattle.filling.specs.Staged.{Earlier, Arrays, entryFrom, Staged}

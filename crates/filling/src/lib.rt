@@ -95,7 +95,7 @@ pub fn fill(queue: Queue, setup: Setup, table: &mut [u64]) -> u64
     let mut feasible: u64 = 0;
     let mut index: usize = 0;
     while index < block {
-        marks::set_windows(
+        windows::set_windows(
             &left,
             &counts,
             &jobs,

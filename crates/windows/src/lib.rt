@@ -5,7 +5,7 @@ ghost use Prim.Native.Nat.{ℕ, min, max, _+_, _-_, _*_, _≤_, _<_};
 ghost use lib.Dec.{ltb};
 ghost use lib.ListN.{length, getD};
 ghost use Rattle.sequencing.specs.Lists.{at};
-ghost use Rattle.marks.specs.Windows.{earliestOf, latestOf};
+ghost use Rattle.windows.specs.Windows.{earliestOf, latestOf};
 
 // The first and the last place of a window.
 pub struct Window {

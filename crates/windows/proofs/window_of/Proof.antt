@@ -1,10 +1,10 @@
--- `marks::window_of` meets its contract.
+-- `windows::window_of` meets its contract.
 -- Assumes nothing.
 use mathlib.Core.Path.{refl}
 use borrow.Author.Tests.{lt-ltb, le-ltb}
 use borrow.Author.Needs.{needs}
-use Rattle.marks.proofs.window_of.Statement.{statement}
-use Rattle.marks.proofs.window_of.Tie as tie
+use Rattle.windows.proofs.window_of.Statement.{statement}
+use Rattle.windows.proofs.window_of.Tie as tie
 
 returns : tie.Need-returns
 returns c = rw (le-ltb (c .before .before .args .left) (c .before .before .args .count) (c .if1 .taken)) (refl, refl)

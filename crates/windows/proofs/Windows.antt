@@ -17,7 +17,7 @@ use Rattle.sequencing.specs.Lists.{at}
 use Rattle.sequencing.proofs.Counting.{bool-cases}
 use Rattle.problem.specs.Problem.{distance}
 use Rattle.table.specs.Entries.{permittedAt}
-use Rattle.marks.specs.Windows.{jobCut, earliestOf, latestOf}
+use Rattle.windows.specs.Windows.{jobCut, earliestOf, latestOf}
 
 -- ---- within a window
 

@@ -1,13 +1,13 @@
--- `marks::set_windows` meets its contract: `Windowing` is the invariant; the kinds left fall.
+-- `windows::set_windows` meets its contract: `Windowing` is the invariant; the kinds left fall.
 -- Assumes nothing.
 use Prim.Native.Nat.{suc, _-_}
 use mathlib.Core.Path.{_≡_}
 use native.Mathlib.Omega.{arith}
-use Rattle.marks.specs.Windows.{earliestOf, latestOf}
-use Rattle.marks.proofs.Windows.{Windowing, setting-none, setting-more, setting-done}
+use Rattle.windows.specs.Windows.{earliestOf, latestOf}
+use Rattle.windows.proofs.Windows.{Windowing, setting-none, setting-more, setting-done}
 use borrow.Author.Needs.{needs}
-use Rattle.marks.proofs.set_windows.Statement.{statement}
-use Rattle.marks.proofs.set_windows.Tie as tie
+use Rattle.windows.proofs.set_windows.Statement.{statement}
+use Rattle.windows.proofs.set_windows.Tie as tie
 
 abbrev Inv-loop : tie.InvT-loop
 Inv-loop left counts jobs first last max-shift changed earliest₀ latest₀ kind₀ earliest latest kind =
