@@ -66,7 +66,7 @@ c-test: $(PROGRAMS) target/c/plan target/bin/plan_queue
 	sh tests/c/example.sh target/c/plan
 	sh tests/c/program.sh target/bin/plan_queue
 	python3 tools/queue_text.py --self-test
-	@set -e; for test in $(PROGRAMS); do $$test; done
+	@printf '%s\n' $(PROGRAMS) | xargs -P 2 -n 1 env
 
 # Random tests with new seeds, for SECONDS seconds in all; `SEED=n` repeats a run.
 soak: $(PROGRAMS)

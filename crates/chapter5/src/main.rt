@@ -1,6 +1,7 @@
 // Plans the example of the source's chapter 5 at shifts 0, 5 and 14 under both goals; prints each plan's cost, kept count and order.
 use libc::STDOUT_FILENO;
 use plan::Plan;
+use queue::Queue;
 use refusal::Answer;
 use refusal::Reason;
 use refusal::Verdict;
@@ -27,12 +28,12 @@ fn print_job(job: u32) {
 }
 
 // The job at each place.
-fn print_jobs(plan: Plan) {
-    let order = plan.order;
+fn print_jobs(queue: Queue, plan: Plan) {
     let mut place: u32 = 0;
     while place < plan.jobs {
         place = place + 1;
-        print_job(finishing::job_at(order, place));
+        let line = finishing::line_at(queue, plan, place);
+        print_job(line.job);
     }
 }
 
@@ -43,7 +44,7 @@ fn print_refusal(reason: Reason) {
 }
 
 // The plan that was written.
-fn print_plan(bytes: &[u8]) {
+fn print_plan(message: &[u8], bytes: &[u8]) {
     let made = plan_reader::read_plan(bytes);
     let verdict = made.verdict;
     match verdict {
@@ -54,7 +55,8 @@ fn print_plan(bytes: &[u8]) {
             print_number(plan.cost, b" kept ");
             print_number(plan.feasible_states, b"\n");
             io::write_all(STDOUT_FILENO, b"order");
-            print_jobs(plan);
+            let reading = queue_reader::read_queue(message);
+            print_jobs(reading.queue, plan);
             io::write_all(STDOUT_FILENO, b"\n");
         }
     }
@@ -70,7 +72,7 @@ fn run(goal: u8, shift: u8) {
     print_number(goal as u64, b"\n");
     match planner::plan(&message, &mut table, &mut buffer) {
         Answer::Refused(why) => print_refusal(why),
-        Answer::Planned(n) => print_plan(finishing::written(&buffer, n)),
+        Answer::Planned(n) => print_plan(&message, finishing::written(&buffer, n)),
     }
 }
 

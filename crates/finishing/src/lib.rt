@@ -66,7 +66,7 @@ fn gap_after(queue: Queue, row: u32, kind: u32) -> Seconds
 }
 
 // The job at a place of an order, 0 where there is none.
-pub fn job_at(order: [u32; 60], place: u32) -> u32
+fn job_at(order: [u32; 60], place: u32) -> u32
     ensures { λ r. ⌜ r ≡ at order place ⌝ }
 {
     if place < 1 {

@@ -6,10 +6,10 @@ use Rattle.chapter5.proofs.print_jobs.Statement.{statement}
 use Rattle.chapter5.proofs.print_jobs.Tie as tie
 
 abbrev Inv-loop : tie.InvT-loop
-Inv-loop plan order place₀ place = Unit {0}
+Inv-loop queue plan place₀ place = Unit {0}
 
 abbrev μ-loop : tie.MeasureT-loop
-μ-loop plan order place₀ place = plan .jobs - place
+μ-loop queue plan place₀ place = plan .jobs - place
 
 pub print-jobs-spec : {M : Type 1} → statement M
 print-jobs-spec =
