@@ -1,3 +1,4 @@
 pub mod Values
 pub mod Staging
 pub mod Filled
+pub mod Carried
