@@ -27,6 +27,7 @@ abbrev likeA : (goal shift a₁ a₂ : ℕ) → List ℕ
 likeA goal m a₁ a₂ =
     0x51 ∷ 0x53 ∷ 0x01 ∷ 0x02 ∷ goal ∷ m ∷ 0x00 ∷ 0x0A ∷ 0x0A ∷ 0x14 ∷ 0x32 ∷ 0x28 ∷ 0x1E ∷ 0x03 ∷ 0x01 ∷ a₁ ∷ 0x3C ∷ a₂ ∷ 0x3C ∷ 0x03 ∷ 0x01 ∷ 0x02 ∷ 0x01 ∷ []
 
+-- 01's case A
 abbrev A : List ℕ
 A = likeA 1 1 1 1
 
@@ -46,6 +47,7 @@ answered message n room = answerOf (ending (readQueue message) n room)
 abbrev planned : List ℕ → (entries bytes : ℕ) → ℕ × List ℕ
 planned message n bytes = (answerNumber (answered message n 77), take bytes (bufferOf (ending (readQueue message) n 77) (replicate 77 0)))
 
+-- what 01 says of each
 pub record Planning : Type 0 where
   -- A: cost 70, kept 7, order 2 1 3; 12 entries are needed, and 77 bytes
   pub A-plan : planned A 12 10 ≡ (256 * 10, 0x51 ∷ 0x50 ∷ 0x01 ∷ 0x01 ∷ 0x46 ∷ 0x07 ∷ 0x03 ∷ 0x02 ∷ 0x01 ∷ 0x03 ∷ [])

@@ -29,6 +29,7 @@ use Rattle.sequencing.proofs.LoopOrder.{count-by-left}
 use Rattle.sequencing.proofs.Options.{none-some}
 use Rattle.sequencing.proofs.Radix.{size-pos}
 use Rattle.sequencing.proofs.Vectors.{at-sum}
+use Rattle.sequencing.proofs.Sums.{sum-same}
 use Rattle.problem.specs.Problem.{problem}
 use Rattle.problem.proofs.Rule.{jobs-is, limits, few-jobs}
 use Rattle.states.specs.Steps.{next, Summed}
@@ -41,7 +42,6 @@ use Rattle.setup.specs.Prepared.{Prepared}
 use Rattle.filling.specs.Staged.{Earlier, Arrays, entryFrom, Staged}
 use Rattle.filling.proofs.Values.{left-at, next-at, candidate-is, candidate-past, filling-is}
 use Rattle.filling.proofs.Carried.{Windows, take-zeros}
-use Rattle.filling.proofs.Staging.{sum-ext}
 use Rattle.setup.proofs.Preparing.{counts-all, entries-fit}
 
 -- the lengths of a record's arrays
@@ -201,7 +201,7 @@ module _ (q : Queue) (v : Valid q) (sized : Sized q) (counts jobs strides : List
         (others : (m : ℕ) → ((L : ℕ) → 1 ≤ L → L ≤ q .kinds → m ≡ (L - 1) * n + i → ⊥) → getD table′ m 0 ≡ getD table m 0)
         (many : more ≡ sumBelow (λ l. found (entryFrom table (arraysOf q strides left earliest latest) (shapeOf q n i remaining weight) (l + 1))) (q .kinds)) where
       more-is : more ≡ countAt q i
-      more-is = many ∙ sum-ext _ _ (q .kinds) (λ l u. ap found (entry-is-value (l + 1) (omega arith) (omega arith) ∙ ap (λ (m : ℕ). value (problem q) m (digits (all (problem q)) i)) (add-one l)))
+      more-is = many ∙ sum-same _ _ (q .kinds) (λ l u. ap found (entry-is-value (l + 1) (omega arith) (omega arith) ∙ ap (λ (m : ℕ). value (problem q) m (digits (all (problem q)) i)) (add-one l)))
 
       stored-so-far : Earlier (problem q) table′ (i + 1)
       stored-so-far L j l u b = elim (eq-or-lt-of-le {n = j} {m = i} (omega arith)) [

@@ -13,7 +13,6 @@ use Rattle.refusal.specs.declared.Verdict.the-variants.{Accepted}
 use Rattle.refusal.specs.Answers.{answerNumber}
 use Rattle.fields.proofs.Codecs.{Bytes}
 use Rattle.queue.specs.declared.Queue.{Queue}
-use Rattle.queue.specs.declared.Reading.{Reading}
 use Rattle.queue.specs.Record.{Valid}
 use Rattle.queue.specs.Reading.{readQueue}
 use Rattle.queue_laws.proofs.Records.{accepted-valid}
@@ -28,8 +27,9 @@ use Rattle.sequencing.proofs.Options.{none-some}
 use Rattle.problem.specs.Problem.{problem}
 use Rattle.problem.proofs.Queues.{none-permitted}
 use Rattle.table.specs.Entries.{stored}
-use Rattle.planning.specs.Planning.{solved, endingOf, ending, bestPlan, answerOf, filledEntry, Leaves}
+use Rattle.planning.specs.Planning.{solved, ending, bestPlan, answerOf, filledEntry, Leaves}
 use Rattle.planning.specs.BestOrder.{Best, BestOrder}
+use Rattle.planning.proofs.Endings.{message-accepted, in-room}
 use Rattle.planning.proofs.Plans.{valid-plan, read-again, best-plan}
 
 -- ---- the table
@@ -88,10 +88,9 @@ module _ (q : Queue) (v : Valid q) (table buffer table′ buffer′ : List ℕ) 
       }
 
 -- an accepted message with room for its table and plan is planned by the recursion
-pub reached : (read : Reading) (n room : ℕ) → read .verdict ≡ Accepted → entries (problem (read .queue)) ≤ n → 77 ≤ room
-    → ending read n room ≡ solved (read .queue) (planCost (problem (read .queue)))
-unfolding ending endingOf
-reached read n room a h k = rw (a, le-ltb room 77 k, le-ltb n (entries (problem (read .queue))) h)
+pub reached : (s : List ℕ) (n room : ℕ) → readQueue s .verdict ≡ Accepted → entries (problem (readQueue s .queue)) ≤ n → 77 ≤ room
+    → ending (readQueue s) n room ≡ solved (readQueue s .queue) (planCost (problem (readQueue s .queue)))
+reached s n room a h k = message-accepted s n room a ∙ in-room (readQueue s .queue) n room k _ refl h
 
 -- demand 3
 pub best-order : (s table buffer table′ buffer′ : List ℕ) → Bytes s
@@ -99,5 +98,5 @@ pub best-order : (s table buffer table′ buffer′ : List ℕ) → Bytes s
     → BestOrder s table buffer table′ buffer′ (answerNumber (answerOf (ending (readQueue s) (length table) (length buffer))))
 best-order s table buffer table′ buffer′ y l a h k =
     let q : Queue = readQueue s .queue in
-    let e = reached (readQueue s) (length table) (length buffer) a h k in
+    let e = reached s (length table) (length buffer) a h k in
     rw e (best q (accepted-valid s y a) table buffer table′ buffer′ (planCost (problem q)) refl k (rw e at l))

@@ -8,7 +8,7 @@ use mathlib.Core.Option.{Option, none, some}
 use mathlib.Core.Path.{_≡_, refl, sym, ap, _∙_}
 use native.Mathlib.Omega.{arith}
 use lib.Dec.{ltb}
-use borrow.Author.Tests.{lt-ltb, le-ltb, ltb-true, ltb-false}
+use borrow.Author.Tests.{ltb-true, ltb-false}
 use Rattle.refusal.specs.declared.Reason.{Reason}
 use Rattle.refusal.specs.declared.Reason.the-variants.{Buffer, Table, Order}
 use Rattle.refusal.specs.declared.Verdict.{Verdict}
@@ -26,8 +26,9 @@ use Rattle.sequencing.specs.Recursion.{planCost}
 use Rattle.sequencing.specs.Entries.{entries}
 use Rattle.problem.specs.Problem.{problem}
 use Rattle.problem.proofs.Queues.{none-permitted}
-use Rattle.planning.specs.Planning.{Ending, refused, unplannable, planned, endingOf, ending, answerOf}
+use Rattle.planning.specs.Planning.{Ending, refused, unplannable, planned, ending, answerOf}
 use Rattle.planning.proofs.Answers.{reason-range}
+use Rattle.planning.proofs.Endings.{message-refused, message-accepted, short-buffer, short-table}
 use Rattle.planning.proofs.Best.{reached}
 
 module _ (s : List ℕ) (n room : ℕ) where
@@ -45,24 +46,18 @@ module _ (s : List ℕ) (n room : ℕ) where
     by-order : readQueue s .verdict ≡ Accepted → 77 ≤ room → entries (problem q) ≤ n → planCost (problem q) ≡ none → ending (readQueue s) n room ≡ unplannable q → Way
     to-plan : (c : ℕ) → ending (readQueue s) n room ≡ planned q c → Way
 
-  message-refused : (r : Reason) → readQueue s .verdict ≡ NotAccepted r → ending (readQueue s) n room ≡ refused r
-  unfolding ending
-  message-refused r h = rw h
-
   buffer-short : readQueue s .verdict ≡ Accepted → room < 77 → ending (readQueue s) n room ≡ refused Buffer
-  unfolding ending endingOf
-  buffer-short h l = rw (h, lt-ltb room 77 l)
+  buffer-short h l = message-accepted s n room h ∙ short-buffer q n room l
 
   table-short : readQueue s .verdict ≡ Accepted → 77 ≤ room → n < entries (problem q) → ending (readQueue s) n room ≡ refused (Table (entries (problem q)))
-  unfolding ending endingOf
-  table-short h l m = rw (h, le-ltb room 77 l, lt-ltb n (entries (problem q)) m)
+  table-short h l m = message-accepted s n room h ∙ short-table q n room l _ refl m
 
   way : Way
   way = by-verdict (readQueue s .verdict) refl
     where
       by-cost : readQueue s .verdict ≡ Accepted → 77 ≤ room → entries (problem q) ≤ n → (r : Option ℕ) → planCost (problem q) ≡ r → Way
-      by-cost h l m none e = by-order h l m e (rw (reached (readQueue s) n room h m l, e))
-      by-cost h l m (some c) e = to-plan c (rw (reached (readQueue s) n room h m l, e))
+      by-cost h l m none e = by-order h l m e (rw (reached s n room h m l, e))
+      by-cost h l m (some c) e = to-plan c (rw (reached s n room h m l, e))
 
       by-entries : readQueue s .verdict ≡ Accepted → 77 ≤ room → (b : Bool) → ltb n (entries (problem q)) ≡ b → Way
       by-entries h l true e = by-table h l (ltb-true n _ e) (table-short h l (ltb-true n _ e))
@@ -74,7 +69,7 @@ module _ (s : List ℕ) (n room : ℕ) where
 
       by-verdict : (v : Verdict) → readQueue s .verdict ≡ v → Way
       by-verdict Accepted e = by-room e (ltb room 77) refl
-      by-verdict (NotAccepted r) e = by-message r e (message-refused r e)
+      by-verdict (NotAccepted r) e = by-message r e (message-refused s n room r e)
 
   -- a refusal's number, and 0 for a plan
   abbrev mark : Answer → ℕ
@@ -87,7 +82,7 @@ module _ (s : List ℕ) (n room : ℕ) where
 
   -- 1 to 14: the message's own refusal, and no other message is refused so
   pub message-exactly : (r : Reason) → reasonNumber r ≤ 14 → (answer ≡ Refused r) ↔ (readQueue s .verdict ≡ NotAccepted r)
-  message-exactly r small = ((λ a. go a way), (λ h. ap answerOf (message-refused r h)))
+  message-exactly r small = ((λ a. go a way), (λ h. ap answerOf (message-refused s n room r h)))
     where
       go : answer ≡ Refused r → Way → readQueue s .verdict ≡ NotAccepted r
       go a (by-message r′ h e) = h ∙ ap NotAccepted (same (ap answerOf (sym e) ∙ a))
@@ -130,7 +125,7 @@ module _ (s : List ℕ) (n room : ℕ) where
       → (answer ≡ Refused Order) ↔ ((readQueue s .verdict ≡ Accepted) × (77 ≤ room) × (entries (problem q) ≤ n) × ((o : List ℕ) → IsOrder (problem q) o → Permitted (problem q) o → ⊥))
   order-exactly y = (
     (λ a. go a way),
-    (λ h. ap answerOf (reached (readQueue s) n room (h .0) (h .2) (h .1)) ∙ rw (none-permitted q (accepted-valid s y (h .0)) .1 (h .3))),
+    (λ h. ap answerOf (reached s n room (h .0) (h .2) (h .1)) ∙ rw (none-permitted q (accepted-valid s y (h .0)) .1 (h .3))),
   )
     where
       go : answer ≡ Refused Order → Way → (readQueue s .verdict ≡ Accepted) × (77 ≤ room) × (entries (problem q) ≤ n) × ((o : List ℕ) → IsOrder (problem q) o → Permitted (problem q) o → ⊥)

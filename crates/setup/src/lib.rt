@@ -55,6 +55,7 @@ fn set_strides(counts: &[u32], kinds: usize, strides: &mut [usize]) -> usize
     product
 }
 
+// Prepares a queue's counts, jobs, strides and P.
 pub fn prepare(queue: Queue) -> Setup
     requires { ⌜ Valid queue ⌝ }
     ensures { λ r. ⌜ Prepared (problem queue) (r .counts) (r .jobs) (r .strides) (r .block) ⌝ }

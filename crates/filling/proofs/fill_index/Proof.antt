@@ -6,7 +6,8 @@ use borrow.Author.Tests.{eq-eqb}
 use Rattle.table.specs.Entries.{stored}
 use Rattle.sequencing.specs.Counts.{found}
 use Rattle.filling.specs.Staged.{Arrays}
-use Rattle.filling.proofs.Staging.{sum-ext, stage-entry}
+use Rattle.sequencing.proofs.Sums.{sum-same}
+use Rattle.filling.proofs.Staging.{stage-entry}
 use borrow.Author.Needs.{needs}
 use Rattle.filling.proofs.fill_index.Statement.{statement}
 use Rattle.filling.proofs.fill_index.Tie as tie
@@ -32,7 +33,7 @@ returns c =
     } in
     let fill = c .before .before .fill-states .ensures in
     let entry = stage-entry (args .table .now) a (args .shape) _ _ (c .before .before .before .before .before .load-next .ensures) (c .before .before .before .before .before .before .before .before .stage-weight .ensures) in
-    (fill .0, ((λ L l u. fill .1 .0 L l u ∙ ap stored (entry L)), (fill .1 .1 .0, fill .1 .1 .1 ∙ sum-ext _ _ _ (λ l u. ap found (entry (l + 1))))))
+    (fill .0, ((λ L l u. fill .1 .0 L l u ∙ ap stored (entry L)), (fill .1 .1 .0, fill .1 .1 .1 ∙ sum-same _ _ _ (λ l u. ap found (entry (l + 1))))))
 
 pub fill-index-spec : {M : Type 1} → statement M
 fill-index-spec =

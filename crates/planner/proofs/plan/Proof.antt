@@ -3,7 +3,8 @@
 use mathlib.Core.Path.{sym, ap, _∙_}
 use Rattle.queue.specs.declared.Reading.{Reading}
 use Rattle.queue_laws.proofs.Records.{accepted-valid}
-use Rattle.planner.proofs.Ends.{ends-as, ends-refused, message-refused, message-accepted, promised}
+use Rattle.planning.proofs.Endings.{message-refused, message-accepted}
+use Rattle.planner.proofs.Ends.{ends-as, ends-refused, promised}
 use borrow.Author.Needs.{needs}
 use Rattle.planner.proofs.plan.Statement.{statement}
 use Rattle.planner.proofs.plan.Tie as tie
