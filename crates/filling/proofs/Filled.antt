@@ -1,10 +1,10 @@
 -- Filling, index by index: the loop's invariant, what each stage may rely on, and what a turn does.
 -- Assumes nothing.
-use Prim.Native.Nat.{ℕ, zero, suc, _+_, _-_, _*_, _/_, _%_, _^_, _≤_, _<_}
+use Prim.Native.Nat.{ℕ, suc, _+_, _-_, _*_, _/_, _%_, _^_, _≤_, _<_}
 use mathlib.Core.Bool.{cond}
 use mathlib.Core.List.{List}
 use mathlib.Core.Logic.{inl, inr}
-use mathlib.Core.Option.{Option, none, some}
+use mathlib.Core.Option.{Option, some}
 use mathlib.Core.Path.{_≡_, refl, sym, ap, _∙_}
 use native.Mathlib.Nat.{div-add-mod', mod-lt, div-lt-iff-lt-mul, mul-comm, mul-le-mul, suc-mul, eq-or-lt-of-le}
 use native.Mathlib.Numerals.{add-one}
@@ -20,29 +20,31 @@ use Rattle.queue.specs.Record.{Valid}
 use Rattle.sequencing.specs.Lists.{at, sum, weigh, sumBelow}
 use Rattle.sequencing.specs.States.{all, place}
 use Rattle.sequencing.specs.Recursion.{W, value}
-use Rattle.sequencing.specs.Entries.{index, digits, block, entries, entry, entryKind, entryLeft}
+use Rattle.sequencing.specs.Entries.{index, digits, block, entries, entry, entryKind, entryLeft, stored}
 use Rattle.sequencing.specs.Counts.{found, feasibleStates}
 use Rattle.sequencing.proofs.AllJobs.{length-all, left-small}
 use Rattle.sequencing.proofs.Bounds.{weigh-le, choice-limit, limit-fits}
 use Rattle.sequencing.proofs.Entries.{left-digits}
 use Rattle.sequencing.proofs.LoopOrder.{count-by-left}
-use Rattle.sequencing.proofs.Options.{none-some}
+use Rattle.sequencing.proofs.Options.{none-some, found-most}
 use Rattle.sequencing.proofs.Radix.{size-pos}
 use Rattle.sequencing.proofs.Vectors.{at-sum}
-use Rattle.sequencing.proofs.Sums.{sum-same}
+use Rattle.sequencing.proofs.Sums.{sum-same, sum-most}
 use Rattle.problem.specs.Problem.{problem}
 use Rattle.problem.proofs.Rule.{jobs-is, limits, few-jobs}
+use Rattle.problem.proofs.Sizes.{entries-fit}
 use Rattle.states.specs.Steps.{next, Summed}
 use Rattle.states.proofs.Stepping.{next-digits, digits-zero}
-use Rattle.table.specs.Entries.{stored, loaded, nextValues, candidate, permittedAt, filling, Loadable, Ready}
+use Rattle.setup.specs.Prepared.{Prepared}
+use Rattle.setup.proofs.Preparing.{counts-all}
+use Rattle.table.specs.Entries.{loaded, nextValues, candidate, filling, Loadable, Ready}
 use Rattle.table.proofs.Candidates.{length-next}
 use Rattle.windows.proofs.Windows.{permitted-within}
+use Rattle.windows.specs.Windows.{permittedAt}
 use Rattle.filling.specs.declared.Shape.{Shape}
-use Rattle.setup.specs.Prepared.{Prepared}
 use Rattle.filling.specs.Staged.{Earlier, Arrays, entryFrom, Staged}
 use Rattle.filling.proofs.Values.{left-at, next-at, candidate-is, candidate-past, filling-is}
 use Rattle.filling.proofs.Carried.{Windows, take-zeros}
-use Rattle.setup.proofs.Preparing.{counts-all, entries-fit}
 
 -- the lengths of a record's arrays
 pub record Sized (q : Queue) : Type 0 where
@@ -77,15 +79,6 @@ module _ (q : Queue) where
     pub done : Earlier (problem q) table i
     pub past : (n : ℕ) → entries (problem q) ≤ n → getD table n 0 ≡ getD table₀ n 0
     pub counted : feasible ≡ sumBelow countAt i
-
-pub sum-most : (f : ℕ → ℕ) (m n : ℕ) → ((l : ℕ) → l < n → f l ≤ m) → sumBelow f n ≤ n * m
-unfolding sumBelow
-sum-most f m zero h = omega arith
-sum-most f m (suc n) h = rw (suc-mul n m) (omega (arith, sum-most f m n (λ l u. h l (omega arith)), h n (omega arith)))
-
-pub found-most : (r : Option ℕ) → found r ≤ 1
-found-most none = omega arith
-found-most (some c) = omega arith
 
 count-most : (q : Queue) (i : ℕ) → countAt q i ≤ q .kinds
 count-most q i = omega (arith, sum-most (λ l. found (value (problem q) (suc l) (digits (all (problem q)) i))) 1 (q .kinds) (λ l _. found-most (value (problem q) (suc l) (digits (all (problem q)) i))))

@@ -19,7 +19,7 @@ use Rattle.sequencing.specs.Problem.{T, kind as kindIn}
 use Rattle.sequencing.specs.States.{complete, jobsOf, K, all, place}
 use Rattle.sequencing.specs.Least.{only, lower, least, argLeast}
 use Rattle.sequencing.specs.Recursion.{W, permit, value, choice}
-use Rattle.sequencing.specs.Entries.{index, digits, block}
+use Rattle.sequencing.specs.Entries.{index, digits, block, stored}
 use Rattle.sequencing.proofs.AllJobs.{length-all, below-all}
 use Rattle.sequencing.proofs.Counting.{getD-filter}
 use Rattle.sequencing.proofs.Entries.{left-digits, next-earlier}
@@ -30,10 +30,11 @@ use Rattle.sequencing.proofs.Vectors.{at-in}
 use Rattle.problem.specs.Problem.{allowed, problem}
 use Rattle.problem.proofs.Rule.{kind-is}
 use Rattle.problem.proofs.Queues.{value-fits}
-use Rattle.table.specs.Entries.{stored, loaded, nextValues, candidate, permittedAt, filling}
+use Rattle.setup.specs.Prepared.{Prepared}
+use Rattle.table.specs.Entries.{loaded, nextValues, candidate, filling}
 use Rattle.table.proofs.Stored.{fits, loaded-stored, least-past, arg-past}
 use Rattle.table.proofs.Candidates.{loaded-next}
-use Rattle.setup.specs.Prepared.{Prepared}
+use Rattle.windows.specs.Windows.{permittedAt}
 use Rattle.filling.specs.Staged.{Earlier}
 
 -- ---- the least of what agrees

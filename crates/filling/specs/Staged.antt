@@ -10,8 +10,8 @@ use Rattle.sequencing.specs.Lists.{at}
 use Rattle.sequencing.specs.Problem.{Problem}
 use Rattle.sequencing.specs.States.{all}
 use Rattle.sequencing.specs.Recursion.{value}
-use Rattle.sequencing.specs.Entries.{digits, block}
-use Rattle.table.specs.Entries.{stored, nextValues, filling, Loadable, Ready}
+use Rattle.sequencing.specs.Entries.{digits, block, stored}
+use Rattle.table.specs.Entries.{nextValues, filling, Loadable, Ready}
 use Rattle.filling.specs.declared.Shape.{Shape}
 
 -- the entries of the first i indices are filled

@@ -10,10 +10,9 @@ ghost use lib.Dec.{ltb};
 ghost use lib.ListN.{length, getD};
 ghost use Rattle.queue.specs.Record.{Valid};
 ghost use Rattle.sequencing.specs.Lists.{sumBelow};
-ghost use Rattle.sequencing.specs.Entries.{entries, entry};
+ghost use Rattle.sequencing.specs.Entries.{entries, entry, stored};
 ghost use Rattle.sequencing.specs.Counts.{found, feasibleStates};
 ghost use Rattle.problem.specs.Problem.{problem};
-ghost use Rattle.table.specs.Entries.{stored};
 ghost use Rattle.setup.specs.Prepared.{Prepared};
 ghost use Rattle.filling.specs.Staged.{entryFrom, Staged};
 

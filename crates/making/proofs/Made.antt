@@ -23,9 +23,9 @@ use Rattle.plan.proofs.Judging.{valid-judged}
 use Rattle.sequencing.specs.Problem.{Problem}
 use Rattle.sequencing.specs.Recursion.{planCost, planOrder}
 use Rattle.sequencing.specs.Counts.{feasibleStates}
+use Rattle.sequencing.specs.Entries.{stored}
 use Rattle.problem.specs.Problem.{problem}
 use Rattle.problem.proofs.Queues.{cost-fits}
-use Rattle.table.specs.Entries.{stored}
 use Rattle.planning.specs.Planning.{Ending, solved, bestPlan, answerOf, filledEntry, Leaves}
 use Rattle.planning.proofs.Plans.{valid-plan}
 

@@ -23,7 +23,7 @@ use Rattle.plan.proofs.Theorems.{message-length}
 use Rattle.sequencing.specs.Recursion.{planCost}
 use Rattle.sequencing.specs.Entries.{entries}
 use Rattle.problem.specs.Problem.{problem}
-use Rattle.setup.proofs.Preparing.{entries-small}
+use Rattle.problem.proofs.Sizes.{entries-small}
 use Rattle.planning.specs.Planning.{refused, solved, endingOf, ifAccepted, ending, bestPlan, answerOf}
 use Rattle.planning.proofs.Plans.{valid-plan}
 

@@ -21,12 +21,11 @@ use Rattle.plan.proofs.Theorems.{message-length}
 use Rattle.sequencing.specs.Problem.{Problem}
 use Rattle.sequencing.specs.States.{IsPair}
 use Rattle.sequencing.specs.Recursion.{value, planCost}
-use Rattle.sequencing.specs.Entries.{entries, number}
+use Rattle.sequencing.specs.Entries.{entries, number, stored}
 use Rattle.sequencing.proofs.Entries.{number-in, entry-is}
 use Rattle.sequencing.proofs.Options.{none-some}
 use Rattle.problem.specs.Problem.{problem}
 use Rattle.problem.proofs.Queues.{none-permitted}
-use Rattle.table.specs.Entries.{stored}
 use Rattle.planning.specs.Planning.{solved, ending, bestPlan, answerOf, filledEntry, Leaves}
 use Rattle.planning.specs.BestOrder.{Best, BestOrder}
 use Rattle.planning.proofs.Endings.{message-accepted, in-room}

@@ -20,11 +20,12 @@ use Rattle.sequencing.specs.Recursion.{planCost, planOrder}
 use Rattle.sequencing.specs.Entries.{entries, entry}
 use Rattle.sequencing.specs.Counts.{found, feasibleStates}
 use Rattle.sequencing.proofs.Best.{plan-kinds}
+use Rattle.sequencing.proofs.Sums.{sum-most}
+use Rattle.sequencing.proofs.Options.{found-most}
 use Rattle.problem.specs.Problem.{problem}
 use Rattle.problem.proofs.Rule.{jobs-is, proper}
 use Rattle.problem.proofs.Queues.{planned, none-cheaper, ties, cost-fits, counted}
-use Rattle.setup.proofs.Preparing.{entries-small}
-use Rattle.filling.proofs.Filled.{sum-most, found-most}
+use Rattle.problem.proofs.Sizes.{entries-small}
 use Rattle.planning.specs.Planning.{bestPlan}
 use Rattle.planning.specs.BestOrder.{BestPlan}
 use Rattle.planning.proofs.Orders.{order-in, order-once}

@@ -15,10 +15,9 @@ use Rattle.sequencing.specs.Orders.{IsOrder, Permitted, cost}
 use Rattle.sequencing.specs.States.{all, IsPair}
 use Rattle.sequencing.specs.Recursion.{value, planOrder}
 use Rattle.sequencing.specs.Ties.{TieRule}
-use Rattle.sequencing.specs.Entries.{entries, number}
+use Rattle.sequencing.specs.Entries.{entries, number, stored}
 use Rattle.sequencing.specs.Counts.{CountsFeasible}
 use Rattle.problem.specs.Problem.{problem}
-use Rattle.table.specs.Entries.{stored}
 
 -- what a plan holds, as the plan reader reads it, for a queue with problem P
 pub record BestPlan (P : Problem) (read : Reading) : Type 0 where

@@ -19,10 +19,9 @@ use Rattle.plan.specs.declared.Plan.{Plan}
 use Rattle.plan.specs.Reading.{planOf}
 use Rattle.plan.specs.Writing.{message}
 use Rattle.sequencing.specs.Recursion.{planCost, planOrder}
-use Rattle.sequencing.specs.Entries.{entries, entry}
+use Rattle.sequencing.specs.Entries.{entries, entry, stored}
 use Rattle.sequencing.specs.Counts.{feasibleStates}
 use Rattle.problem.specs.Problem.{problem}
-use Rattle.table.specs.Entries.{stored}
 
 -- how planning ends: refused by the message, 15 or 16; 17, no order of a queue is permitted; or a plan, with its cost
 pub data Ending : Type 0 where

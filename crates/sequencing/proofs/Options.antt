@@ -6,6 +6,7 @@ use Prim.Native.Nat.{ℕ, _+_, _≤_}
 use native.Mathlib.Omega.{arith}
 use lib.Dec.{T as Is}
 use Rattle.sequencing.specs.Least.{only, plus, lower}
+use Rattle.sequencing.specs.Counts.{found}
 
 pub some-eq : (a b : ℕ) → some a ≡ some b → a ≡ b
 some-eq a b e = cc
@@ -44,3 +45,7 @@ pub upto-right : (c : ℕ) (a b : Option ℕ) → Upto c b → Upto c (lower a b
 upto-right c none b p = p
 upto-right c (some a) none p = absurd p
 upto-right c (some a) (some b) p = omega arith
+
+pub found-most : (r : Option ℕ) → found r ≤ 1
+found-most none = omega arith
+found-most (some c) = omega arith

@@ -1,6 +1,6 @@
 -- Sums over the numbers below n, in blocks and in either order.
 use mathlib.Core.Path.{_≡_, refl}
-use Prim.Native.Nat.{ℕ, zero, suc, _+_, _*_, _<_}
+use Prim.Native.Nat.{ℕ, zero, suc, _+_, _*_, _≤_, _<_}
 use native.Mathlib.Nat.{add-zero, add-suc, zero-mul, suc-mul}
 use native.Mathlib.Omega.{arith}
 use Rattle.sequencing.specs.Lists.{sumBelow}
@@ -35,3 +35,8 @@ pub sum-swap : (f : ℕ → ℕ → ℕ) (m n : ℕ) → sumBelow (λ l. sumBelo
 unfolding sumBelow
 sum-swap f m zero = omega (arith, sum-zero m)
 sum-swap f m (suc n) = omega (arith, sum-swap f m n, sum-add (λ i. sumBelow (λ l. f l i) n) (f n) m)
+
+pub sum-most : (f : ℕ → ℕ) (m n : ℕ) → ((l : ℕ) → l < n → f l ≤ m) → sumBelow f n ≤ n * m
+unfolding sumBelow
+sum-most f m zero h = omega arith
+sum-most f m (suc n) h = rw (suc-mul n m) (omega (arith, sum-most f m n (λ l u. h l (omega arith)), h n (omega arith)))

@@ -1,7 +1,7 @@
 -- The table's entries: where the pair (L; k) stands, and what stands there.
 use mathlib.Core.List.{List, [], _∷_}
-use mathlib.Core.Option.{Option}
-use Prim.Native.Nat.{ℕ, zero, suc, pred, _+_, _*_, _/_, _%_}
+use mathlib.Core.Option.{Option, none, some}
+use Prim.Native.Nat.{ℕ, zero, suc, pred, _+_, _*_, _/_, _%_, _-_, _^_}
 use Rattle.sequencing.specs.Problem.{Problem}
 use Rattle.sequencing.specs.States.{all}
 use Rattle.sequencing.specs.Recursion.{value}
@@ -29,6 +29,11 @@ stride [] (suc i) = 0
 stride (c ∷ cs) (suc zero) = 1
 stride (c ∷ cs) (suc (suc i)) = suc c * stride cs (suc i)
 
+-- a value as the table holds it: 2^64 − 1 where there is none
+abbrev pub stored : Option ℕ → ℕ
+stored none = 2 ^ 64 - 1
+stored (some c) = c
+
 module _ (P : Problem) where
   -- 01's P
   abbrev pub block : ℕ
@@ -50,6 +55,6 @@ module _ (P : Problem) where
   unfoldable pub entryLeft : ℕ → List ℕ
   entryLeft n = digits (all P) (n % block)
 
-  -- what entry n holds: its pair's value, and none (01: 2^64 − 1) where that is none, so also where k_L = K_L
+  -- the value that entry n holds: its pair's, none where that is none, so also where k_L = K_L
   abbrev pub entry : ℕ → Option ℕ
   entry n = value P (entryKind n) (entryLeft n)

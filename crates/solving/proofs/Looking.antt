@@ -17,10 +17,10 @@ use Rattle.sequencing.specs.Lists.{weigh, sumBelow}
 use Rattle.sequencing.specs.States.{all}
 use Rattle.sequencing.specs.Least.{least, argLeast}
 use Rattle.sequencing.specs.Recursion.{W, value, choice}
-use Rattle.sequencing.specs.Entries.{digits, block, entries, entry, entryKind, entryLeft}
+use Rattle.sequencing.specs.Entries.{digits, block, entries, entry, entryKind, entryLeft, stored}
 use Rattle.problem.specs.Problem.{problem}
-use Rattle.table.specs.Entries.{stored, nextValues, candidate, Loadable, Ready}
 use Rattle.setup.specs.Prepared.{Prepared}
+use Rattle.table.specs.Entries.{nextValues, candidate, Loadable, Ready}
 use Rattle.filling.specs.Staged.{Earlier}
 use Rattle.filling.proofs.Values.{least-is, taken-is}
 use Rattle.filling.proofs.Filled.{Sized, countAt, Filled, loadable, ready, weight-is, left-few, weights-few}

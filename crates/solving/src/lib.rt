@@ -12,10 +12,9 @@ ghost use Rattle.queue.specs.Record.{Valid};
 ghost use Rattle.sequencing.specs.States.{all};
 ghost use Rattle.sequencing.specs.Least.{least, argLeast};
 ghost use Rattle.sequencing.specs.Recursion.{choice, planCost};
-ghost use Rattle.sequencing.specs.Entries.{digits, block, entries, entry};
+ghost use Rattle.sequencing.specs.Entries.{digits, block, entries, entry, stored};
 ghost use Rattle.sequencing.specs.Counts.{feasibleStates};
 ghost use Rattle.problem.specs.Problem.{problem};
-ghost use Rattle.table.specs.Entries.{stored};
 ghost use Rattle.setup.specs.Prepared.{Prepared};
 ghost use Rattle.filling.specs.Staged.{Earlier};
 

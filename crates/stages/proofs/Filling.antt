@@ -17,7 +17,8 @@ use borrow.Author.Count.{below-more}
 use Rattle.sequencing.specs.Lists.{at, sumBelow}
 use Rattle.sequencing.specs.Least.{least}
 use Rattle.sequencing.specs.Counts.{found}
-use Rattle.table.specs.Entries.{stored, loaded, candidate, filling, Ready}
+use Rattle.sequencing.specs.Entries.{stored}
+use Rattle.table.specs.Entries.{loaded, candidate, filling, Ready}
 use Rattle.table.proofs.Stored.{Fits, fits-only, fits-cond, fits-least, loaded-stored}
 use Rattle.table.proofs.Candidates.{candidate-fits}
 

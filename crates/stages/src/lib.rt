@@ -6,7 +6,8 @@ ghost use lib.Dec.{leb};
 ghost use lib.ListN.{length, getD};
 ghost use Rattle.sequencing.specs.Lists.{at, sumBelow};
 ghost use Rattle.sequencing.specs.Counts.{found};
-ghost use Rattle.table.specs.Entries.{stored, loaded, filling, Ready};
+ghost use Rattle.sequencing.specs.Entries.{stored};
+ghost use Rattle.table.specs.Entries.{loaded, filling, Ready};
 
 // The numbers of one k that all its states share.
 pub struct Stage {

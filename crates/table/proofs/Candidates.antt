@@ -15,7 +15,8 @@ use borrow.Author.Count.{below-more}
 use Rattle.sequencing.specs.Lists.{at}
 use Rattle.sequencing.specs.Least.{only}
 use Rattle.sequencing.proofs.Options.{plus-some}
-use Rattle.table.specs.Entries.{stored, loaded, nextValue, nextValues, candidate, Loadable, Ready}
+use Rattle.sequencing.specs.Entries.{stored}
+use Rattle.table.specs.Entries.{loaded, nextValue, nextValues, candidate, Loadable, Ready}
 use Rattle.table.proofs.Stored.{Fits, fits, stored-loaded}
 
 -- ---- from a row

@@ -9,7 +9,7 @@ use native.Mathlib.Omega.{arith}
 use lib.Dec.{ltb}
 use Rattle.sequencing.specs.Least.{least, argLeast}
 use Rattle.sequencing.proofs.Options.{none-some}
-use Rattle.table.specs.Entries.{stored}
+use Rattle.sequencing.specs.Entries.{stored}
 use Rattle.table.proofs.Stored.{Fits, fits-least, stored-lower, stored-taken}
 
 pub record Lowest (f : ℕ → Option ℕ) (kinds cost kind x : ℕ) : Type 0 where

@@ -13,7 +13,8 @@ use Rattle.sequencing.specs.Least.{only, lower, reaches, least, argLeast}
 use Rattle.sequencing.proofs.Counting.{bool-cases}
 use Rattle.sequencing.proofs.Options.{none-some}
 use Rattle.sequencing.proofs.Least.{smallest}
-use Rattle.table.specs.Entries.{stored, loaded}
+use Rattle.sequencing.specs.Entries.{stored}
+use Rattle.table.specs.Entries.{loaded}
 
 -- a value that the table can hold
 abbrev pub Fits : Option ℕ → Type 0

@@ -8,14 +8,9 @@ use lib.Dec.{leb, ltb, eqb}
 use lib.ListN.{length, getD}
 use Rattle.sequencing.specs.Lists.{at}
 use Rattle.sequencing.specs.Least.{only, plus, least}
-use Rattle.problem.specs.Problem.{distance}
+use Rattle.sequencing.specs.Entries.{stored}
 
--- a value as the table holds it: 2^64 − 1 where there is none
-abbrev pub stored : Option ℕ → ℕ
-stored none = 2 ^ 64 - 1
-stored (some c) = c
-
--- and as it is read from the table
+-- a value as it is read from the table: none for 2^64 − 1
 abbrev pub loaded : ℕ → Option ℕ
 loaded v = cond (eqb v (2 ^ 64 - 1)) none (some v)
 
@@ -33,12 +28,6 @@ nextValues table left strides kinds block index =
 -- what kind x as the next comes to from row L, by the next states' entries: w × gap(L, x) and what comes after
 abbrev pub candidate : (next gaps : List ℕ) (row w : ℕ) → ℕ → Option ℕ
 candidate next gaps row w x = plus (w * getD gaps (5 * row + (x - 1)) 0) (loaded (at next x))
-
--- whether kind L's job, the (K_L − k_L)th of its kind, exists and is permitted at a place
-abbrev pub permittedAt : (left counts jobs first last : List ℕ) (place shift : ℕ) → ℕ → Bool
-permittedAt left counts jobs first last place shift L =
-    let job : ℕ = getD jobs (60 * (L - 1) + (at counts L - at left L - 1)) 0 in
-    ltb (at left L) (at counts L) && leb (distance place job) shift && leb (at first L) place && leb place (at last L)
 
 -- what the entry of (L; k) gets: none where L's job is not permitted, 0 where nothing is left, else the least over the next kinds
 abbrev pub filling : (next gaps : List ℕ) (w remaining : ℕ) → Bool → ℕ → Option ℕ

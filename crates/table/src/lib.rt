@@ -8,7 +8,8 @@ ghost use Prim.Native.Nat.{ℕ, min, _+_, _-_, _*_, _^_, _≤_, _<_};
 ghost use lib.Dec.{leb, ltb};
 ghost use lib.ListN.{length, getD};
 ghost use Rattle.sequencing.specs.Least.{only, plus, least, argLeast};
-ghost use Rattle.table.specs.Entries.{stored, loaded, nextValues, candidate, Loadable, Ready};
+ghost use Rattle.sequencing.specs.Entries.{stored};
+ghost use Rattle.table.specs.Entries.{loaded, nextValues, candidate, Loadable, Ready};
 
 // An entry that holds no value.
 pub const NONE: u64 = 18446744073709551615;

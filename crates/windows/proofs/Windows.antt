@@ -11,13 +11,12 @@ use lib.ListN.{length, getD, set, length-set}
 use lib.Seq.{getD-set-same, getD-set-other}
 use borrow.Author.Count.{below-more}
 use borrow.Author.Tests.{lt-ltb, le-ltb, le-leb, leb-true}
-use Rattle.fields.proofs.Judged.{and-true}
 use Rattle.number.proofs.Steps.{below-or-not}
+use Rattle.fields.proofs.Judged.{and-true}
 use Rattle.sequencing.specs.Lists.{at}
 use Rattle.sequencing.proofs.Counting.{bool-cases}
 use Rattle.problem.specs.Problem.{distance}
-use Rattle.table.specs.Entries.{permittedAt}
-use Rattle.windows.specs.Windows.{jobCut, earliestOf, latestOf}
+use Rattle.windows.specs.Windows.{jobCut, earliestOf, latestOf, permittedAt}
 
 -- ---- within a window
 

@@ -3,12 +3,12 @@
 use Prim.Native.Nat.{_+_}
 use mathlib.Core.Path.{ap, _∙_}
 use borrow.Author.Tests.{eq-eqb}
-use Rattle.table.specs.Entries.{stored}
 use Rattle.sequencing.specs.Counts.{found}
-use Rattle.filling.specs.Staged.{Arrays}
 use Rattle.sequencing.proofs.Sums.{sum-same}
+use Rattle.filling.specs.Staged.{Arrays}
 use Rattle.filling.proofs.Staging.{stage-entry}
 use borrow.Author.Needs.{needs}
+use Rattle.sequencing.specs.Entries.{stored}
 use Rattle.filling.proofs.fill_index.Statement.{statement}
 use Rattle.filling.proofs.fill_index.Tie as tie
 
