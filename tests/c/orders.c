@@ -5,6 +5,16 @@
 
 static unsigned long orders_tried, states_tried;
 
+/* 01's "permitted" once more, apart from reference.h, so that a slip in one shows: |p - i| <= m and a_j <= p <= b_j. */
+static int may_stand(const struct queue_record *q, unsigned job, unsigned place)
+{
+    unsigned j = q->kind[job - 1] - 1;
+    int off = (int)place - (int)job, m = (int)q->shift;
+    if (off < -m || off > m)
+        return 0;
+    return place >= q->first[j] && place <= q->last[j];
+}
+
 /* 01's cost of an order, given as the job at each place. */
 static uint64_t order_cost(const struct queue_record *q, const unsigned *job)
 {
@@ -22,7 +32,7 @@ static uint64_t order_cost(const struct queue_record *q, const unsigned *job)
 static int order_permitted(const struct queue_record *q, const unsigned *job)
 {
     for (unsigned place = 1; place <= q->jobs; place++)
-        if (!ref_permitted(q, job[place - 1], place))
+        if (!may_stand(q, job[place - 1], place))
             return 0;
     return 1;
 }
@@ -52,7 +62,7 @@ static void try_orders(const struct queue_record *q, unsigned *job, unsigned pla
         return;
     }
     for (unsigned i = 1; i <= q->jobs; i++) {
-        int free = ref_permitted(q, i, placed + 1);
+        int free = may_stand(q, i, placed + 1);
         for (unsigned p = 0; p < placed; p++)
             free = free && job[p] != i;
         if (free) {
@@ -69,7 +79,7 @@ static int can_fill(const struct queue_record *q, const int *used, unsigned plac
     if (place > q->jobs)
         return 1;
     for (unsigned i = 1; i <= q->jobs; i++) {
-        int next = !used[i - 1] && ref_permitted(q, i, place);
+        int next = !used[i - 1] && may_stand(q, i, place);
         for (unsigned earlier = 1; earlier < i; earlier++)
             if (q->kind[earlier - 1] == q->kind[i - 1] && !used[earlier - 1])
                 next = 0;
@@ -110,7 +120,7 @@ static unsigned long count_kept(const struct queue_record *q)
         }
         for (unsigned j = 0; j < q->kinds; j++)
             if (cut[j] > 0)
-                kept += ref_permitted(q, latest[j], place) && can_fill(q, used, place + 1);
+                kept += may_stand(q, latest[j], place) && can_fill(q, used, place + 1);
         states_tried++;
     }
     return kept;

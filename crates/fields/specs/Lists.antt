@@ -1,6 +1,8 @@
 -- Lists of numbers, and the arrays that hold them.
 use Prim.Native.Nat.{ℕ, zero, suc}
+use mathlib.Core.Bool.{Bool, false, _||_}
 use mathlib.Core.List.{List, [], _∷_}
+use lib.Dec.{eqb}
 use lib.ListN.{replicate}
 use lib.Seq.{sets}
 
@@ -12,3 +14,8 @@ tabulate f i (suc n) = f i ∷ tabulate f (suc i) n
 -- an array of n numbers: those of a list, and 0 past them
 abbrev pub filled : ℕ → List ℕ → List ℕ
 filled n vs = sets (replicate n 0) 0 vs
+
+-- a number stands in a list
+unfoldable pub standsIn : ℕ → List ℕ → Bool
+standsIn j [] = false
+standsIn j (i ∷ is) = eqb j i || standsIn j is

@@ -30,6 +30,7 @@ use Rattle.sequencing.proofs.Vectors.{at-in}
 use Rattle.problem.specs.Problem.{allowed, problem}
 use Rattle.problem.proofs.Rule.{kind-is}
 use Rattle.problem.proofs.Queues.{value-fits}
+use Rattle.problem.proofs.Sizes.{kind-few}
 use Rattle.setup.specs.Prepared.{Prepared}
 use Rattle.table.specs.Entries.{loaded, nextValues, candidate, filling}
 use Rattle.table.proofs.Stored.{fits, loaded-stored, least-past, arg-past}
@@ -86,11 +87,11 @@ module _ (q : Queue) (v : Valid q) where
     unfolding allowed
     permitted-is L r l u =
         let P = problem q in
-        rw (left-at L l u, p .listed .counts-are L l u, at-minus (q .«first_places») L l, at-minus (q .«last_places») L l)
+        rw (left-at L l u, p .listed .counts-are L l (omega (arith, v .kinds)), at-minus (q .«first_places») L l, at-minus (q .«last_places») L l)
         (elim (bool-cases (ltb (at k L) (K P L))) [
           | inl e ↦ (let h : at k L < K P L = ltb-true (at k L) (K P L) e in
               let n = K P L - at k L in
-              rw (e, p .listed .jobs-are L n l u (omega arith) (omega arith), job-kind L n l (omega arith) (omega arith)) refl)
+              rw (e, p .listed .jobs-are L n l (omega (arith, v .kinds)) (omega arith) (omega (arith, kind-few q v L l u)), job-kind L n l (omega arith) (omega arith)) refl)
           | inr e ↦ rw e
         ])
 
@@ -98,7 +99,7 @@ module _ (q : Queue) (v : Valid q) where
     pub next-at : (x : ℕ) → 1 ≤ x → x ≤ q .kinds → 0 < at k x → index (all (problem q)) (complete k x) + at strides x ≡ i
     next-at x l u h =
         let s = left-digits (problem q) i in
-        omega (arith, p .strides-are x l u, index-complete (all (problem q)) k x (s .long ∙ sym (length-all (problem q))) h, index-digits (all (problem q)) i in-block)
+        omega (arith, p .strides-are x l (omega (arith, v .kinds)), index-complete (all (problem q)) k x (s .long ∙ sym (length-all (problem q))) h, index-digits (all (problem q)) i in-block)
 
     next-pos : (x : ℕ) → 1 ≤ x → x ≤ q .kinds → 0 < at k x
         → (x - 1) * size + i - at strides x ≡ (x - 1) * block (problem q) + index (all (problem q)) (complete k x)

@@ -67,6 +67,32 @@ fn fill_index(
     )
 }
 
+// Where filling begins: no job is left, and every kind's window is still to be set.
+fn first_step(kinds: usize) -> Step
+    ensures { λ r. ⌜ r ≡ record { changed = kinds; remaining = 0; weight = 0 } ⌝ }
+{
+    Step {
+        changed: kinds,
+        remaining: 0,
+        weight: 0,
+    }
+}
+
+// The numbers of the k that a step led to.
+fn shape_at(kinds: usize, block: usize, index: usize, goal: u32, jobs: u32, step: Step) -> Shape
+    ensures { λ r. ⌜ r ≡ record { kinds = kinds; block = block; index = index; goal = goal; jobs = jobs; remaining = step .remaining; weight = step .weight } ⌝ }
+{
+    Shape {
+        kinds,
+        block,
+        index,
+        goal,
+        jobs,
+        remaining: step.remaining,
+        weight: step.weight,
+    }
+}
+
 // Fills the table with every state's value; returns how many states are feasible.
 pub fn fill(queue: Queue, setup: Setup, table: &mut [u64]) -> u64
     requires { ⌜ Valid queue × (Prepared (problem queue) (setup .counts) (setup .jobs) (setup .strides) (setup .block) × (entries (problem queue) ≤ length (now table))) ⌝ }
@@ -86,11 +112,7 @@ pub fn fill(queue: Queue, setup: Setup, table: &mut [u64]) -> u64
     let mut left = [0u32; 5];
     let mut earliest = [0u32; 5];
     let mut latest = [0u32; 5];
-    let mut step = Step {
-        changed: kinds,
-        remaining: 0,
-        weight: 0,
-    };
+    let mut step = first_step(kinds);
     let mut feasible: u64 = 0;
     let mut index: usize = 0;
     while index < block {
@@ -105,15 +127,7 @@ pub fn fill(queue: Queue, setup: Setup, table: &mut [u64]) -> u64
             &mut earliest,
             &mut latest,
         );
-        let shape = Shape {
-            kinds,
-            block,
-            index,
-            goal: queue.goal,
-            jobs: queue.jobs,
-            remaining: step.remaining,
-            weight: step.weight,
-        };
+        let shape = shape_at(kinds, block, index, queue.goal, queue.jobs, step);
         feasible = feasible + fill_index(table, &left, &earliest, &latest, &strides, &gaps, shape);
         step = states::step_left(&mut left, &counts, &weights, kinds, step);
         index = index + 1;

@@ -7,9 +7,9 @@ use mathlib.Core.Path.{_≡_, refl, sym, ap, ap₂, _∙_}
 use native.Mathlib.Omega.{arith}
 use lib.ListN.{length, getD, take, set, replicate, length-set}
 use lib.Seq.{sets, take-set-lt}
+use Rattle.fields.specs.Lists.{filled}
 use Rattle.queue.specs.declared.Queue.{Queue}
 use Rattle.queue.specs.Record.{Valid}
-use Rattle.fields.specs.Lists.{filled}
 use Rattle.sequencing.specs.Lists.{at, sum}
 use Rattle.sequencing.specs.Problem.{Problem}
 use Rattle.sequencing.specs.States.{complete, K, all, job, byHandIn}
@@ -27,6 +27,7 @@ use Rattle.sequencing.proofs.Recursion.{value-some, choice-some}
 use Rattle.sequencing.proofs.Vectors.{complete-sum, at-complete}
 use Rattle.problem.specs.Problem.{problem}
 use Rattle.problem.proofs.Rule.{jobs-is, proper}
+use Rattle.problem.proofs.Sizes.{kind-few}
 use Rattle.setup.specs.Prepared.{Prepared}
 use Rattle.setup.proofs.Preparing.{counts-few}
 use Rattle.filling.proofs.Values.{at-minus, left-at, next-at}
@@ -126,7 +127,7 @@ module _ (q : Queue) (v : Valid q) (counts jobs strides : List ℕ) (n : ℕ) (p
       lower-index = omega (arith, at-minus strides x (next .low), next-at q v counts jobs strides n p left i (o .here) (o .within) x (next .low) (next .high) (next .some-left))
 
       counted : getD counts (x - 1) 0 ≡ K (problem q) x
-      counted = sym (at-minus counts x (next .low)) ∙ p .listed .counts-are x (next .low) (next .high)
+      counted = sym (at-minus counts x (next .low)) ∙ p .listed .counts-are x (next .low) (omega (arith, next .high, v .kinds))
 
       on-next : (j : ℕ) (left′ : List ℕ) → j ≡ getD jobs (60 * (x - 1) + (getD counts (x - 1) 0 - getD left (x - 1) 0)) 0
           → left′ ≡ set left (x - 1) (getD left (x - 1) 0 - 1) → On q (set order place j) left′ x (i - getD strides (x - 1) 0) (place + 1)
@@ -141,7 +142,7 @@ module _ (q : Queue) (v : Valid q) (counts jobs strides : List ℕ) (n : ℕ) (p
           let m : ℕ = K P x - at k′ x in
           let nth : getD counts (x - 1) 0 - getD left (x - 1) 0 ≡ m - 1 = omega (arith, there, counted, s .within x, fewer) in
           let taken : j ≡ job P x k′ = ej ∙ ap (λ (a : ℕ). getD jobs (60 * (x - 1) + a) 0) nth
-          ∙ p .listed .jobs-are x m (next .low) (next .high) (omega (arith, s .within x, fewer)) (omega arith) in
+          ∙ p .listed .jobs-are x m (next .low) (omega (arith, next .high, v .kinds)) (omega (arith, s .within x, fewer)) (omega (arith, kind-few q v x (next .low) (next .high))) in
           let later = byHandIn P k′ (walk P (sum k′) x k′) in
           record {
             left-long = rw el (length-set left (x - 1) _ ∙ o .left-long);

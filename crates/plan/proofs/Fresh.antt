@@ -9,7 +9,8 @@ use lib.Dec.{eqb}
 use lib.ListN.{length, getD, take}
 use borrow.Author.Tests.{eq-eqb, ne-eqb}
 use Rattle.fields.proofs.Judged.{and-true}
-use Rattle.plan.specs.Record.{standsIn, fresh}
+use Rattle.fields.specs.Lists.{standsIn}
+use Rattle.plan.specs.Record.{fresh}
 use Rattle.plan.specs.Writing.{allFresh}
 
 or-false : (a b : Bool) → a || b ≡ false → (a ≡ false) × (b ≡ false)

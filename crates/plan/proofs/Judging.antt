@@ -15,8 +15,9 @@ use Rattle.refusal.specs.declared.Verdict.the-variants.{Accepted}
 use Rattle.fields.specs.Fields.{within}
 use Rattle.fields.specs.Messages.{check}
 use Rattle.fields.proofs.Judged.{and-true, within-true, true-within}
+use Rattle.fields.specs.Lists.{standsIn}
 use Rattle.plan.specs.declared.Plan.{Plan}
-use Rattle.plan.specs.Record.{standsIn, fresh, job, jobList, Valid}
+use Rattle.plan.specs.Record.{fresh, job, jobList, Valid}
 use Rattle.plan.specs.Writing.{allFresh, judge}
 use Rattle.plan.proofs.Fresh.{stands-nowhere, nowhere-stands, fresh-places, places-fresh}
 use Rattle.plan.proofs.JobLists.{job-listed, job-list-length}

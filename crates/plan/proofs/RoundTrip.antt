@@ -17,8 +17,9 @@ use Rattle.fields.specs.Messages.{opens, opening, end}
 use Rattle.fields.proofs.Judged.{and-true, within-true}
 use Rattle.fields.proofs.Openings.{opens-both, opens-bytes}
 use Rattle.fields.proofs.Codecs.{Bytes, Stand, Codec, stand-none, stand-append, past, number-codec, field-codec, bounded-codec}
+use Rattle.fields.specs.Lists.{standsIn}
 use Rattle.plan.specs.declared.Plan.{Plan}
-use Rattle.plan.specs.Record.{standsIn, fresh}
+use Rattle.plan.specs.Record.{fresh}
 use Rattle.plan.specs.Reading.{order, plan, planOf}
 use Rattle.plan.specs.Writing.{allFresh}
 use Rattle.plan.proofs.Judging.{Bounded}

@@ -7,10 +7,9 @@ use Rattle.refusal.specs.declared.Verdict.the-variants.{Accepted, Refused}
 use Rattle.refusal.specs.declared.Written.the-variants.{Bytes, Refused as NotWritten}
 use Rattle.number.specs.Readers.{refused}
 use Rattle.number.specs.Numbers.{groupsAt, groups, encode}
-use Rattle.fields.specs.Lists.{tabulate}
+use Rattle.fields.specs.Lists.{tabulate, standsIn}
 use Rattle.fields.specs.Messages.{opens}
 use Rattle.plan.specs.declared.Plan.{Plan}
-use Rattle.plan.specs.Record.{standsIn}
 use Rattle.plan.specs.Reading.{order, plan, planOf, asReading, readPlan}
 use Rattle.plan.specs.Writing.{message, allFresh, judge, writePlan}
 

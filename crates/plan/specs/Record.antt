@@ -1,18 +1,12 @@
 -- What a plan record holds, in document 01's terms, and the bounds on it.
 use Prim.Native.Nat.{ℕ, _-_, _^_, _≤_, _<_}
-use mathlib.Core.Bool.{Bool, false, _&&_, _||_, not}
-use mathlib.Core.List.{List, [], _∷_}
+use mathlib.Core.Bool.{Bool, _&&_, not}
+use mathlib.Core.List.{List}
 use mathlib.Core.Path.{_≡_}
-use lib.Dec.{eqb}
 use lib.ListN.{getD}
 use Rattle.fields.specs.Fields.{within}
-use Rattle.fields.specs.Lists.{tabulate}
+use Rattle.fields.specs.Lists.{tabulate, standsIn}
 use Rattle.plan.specs.declared.Plan.{Plan}
-
--- a job stands in a list
-unfoldable pub standsIn : ℕ → List ℕ → Bool
-standsIn j [] = false
-standsIn j (i ∷ is) = eqb j i || standsIn j is
 
 -- a job in a plan of t jobs, after the earlier places: 18 where it is 0, over T, or at an earlier place
 abbrev pub fresh : ℕ → List ℕ → ℕ → Bool

@@ -10,7 +10,7 @@ use lib.ListN.{length, getD, take, drop-of-length-le}
 use lib.Seq.{drop-cons, take-nil}
 use borrow.Author.Tests.{eq-eqb, ne-eqb}
 use Rattle.fields.specs.Fields.{part}
-use Rattle.plan.specs.Record.{standsIn}
+use Rattle.fields.specs.Lists.{standsIn}
 
 -- before place k + 1
 pub record Seeking (order : List ℕ) (places job k : ℕ) : Type 0 where

@@ -1,7 +1,7 @@
 // The jobs of a plan: whether one stands at an earlier place.
 ghost use mathlib.Core.Path.{_≡_};
 ghost use lib.ListN.{take};
-ghost use Rattle.plan.specs.Record.{standsIn};
+ghost use Rattle.fields.specs.Lists.{standsIn};
 
 // Whether a job stands at one of the first places.
 pub fn stands_in(order: &[u32], places: usize, job: u32) -> bool

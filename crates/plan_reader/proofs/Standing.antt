@@ -12,7 +12,8 @@ use Rattle.number.specs.Numbers.{number}
 use Rattle.number.proofs.Steps.{bool-cases, not-refused}
 use Rattle.fields.specs.Fields.{field, within}
 use Rattle.fields.proofs.Judged.{field-found, found-field}
-use Rattle.plan.specs.Record.{standsIn, fresh}
+use Rattle.fields.specs.Lists.{standsIn}
+use Rattle.plan.specs.Record.{fresh}
 
 module _ (t : ℕ) (earlier s : List ℕ) (at : ℕ) where
   module _ (v n : ℕ) (e : field 3 (within 1 t) Job s at ≡ found v n) where

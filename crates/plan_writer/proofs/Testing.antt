@@ -11,7 +11,8 @@ use lib.Seq.{take-suc}
 use Rattle.fields.specs.Fields.{part}
 use Rattle.fields.proofs.Judged.{low-out, high-out, true-within}
 use Rattle.fields.proofs.Parts.{part-more, part-none}
-use Rattle.plan.specs.Record.{standsIn, fresh}
+use Rattle.fields.specs.Lists.{standsIn}
+use Rattle.plan.specs.Record.{fresh}
 use Rattle.plan.specs.Writing.{allFresh}
 
 -- before place k + 1

@@ -1,4 +1,4 @@
--- How many entries a queue's table has at most.
+-- How many jobs of a kind, and how many entries, a queue has at most.
 -- Assumes nothing.
 use Prim.Native.Nat.{ℕ, zero, suc, _^_, _≤_, _<_}
 use mathlib.Core.List.{List, [], _∷_}
@@ -8,9 +8,9 @@ use lib.ListN.{length}
 use Rattle.queue.specs.declared.Queue.{Queue}
 use Rattle.queue.specs.Record.{Valid}
 use Rattle.sequencing.specs.Lists.{at}
-use Rattle.sequencing.specs.States.{all}
+use Rattle.sequencing.specs.States.{all, K}
 use Rattle.sequencing.specs.Entries.{size, block, entries}
-use Rattle.sequencing.proofs.AllJobs.{length-all, sum-all}
+use Rattle.sequencing.proofs.AllJobs.{at-all, length-all, sum-all}
 use Rattle.sequencing.proofs.Vectors.{at-sum}
 use Rattle.problem.specs.Problem.{problem}
 use Rattle.problem.proofs.Rule.{proper, few-jobs}
@@ -25,6 +25,9 @@ size-most (c ∷ cs) h = rw (pow-suc 61 (length cs)) (omega (arith, mul-le-mul {
     later g (suc j) = g (suc (suc j))
 
 module _ (q : Queue) (v : Valid q) where
+  pub kind-few : (j : ℕ) → 1 ≤ j → j ≤ q .kinds → K (problem q) j ≤ 60
+  kind-few j l u = omega (arith, at-all (problem q) j l u, at-sum (all (problem q)) j, sum-all (problem q) (proper q v), few-jobs q v)
+
   block-most : block (problem q) ≤ 61 ^ 5
   block-most =
       let P = problem q in

@@ -6,10 +6,9 @@ use mathlib.Core.Bool.{Bool, cond}
 use mathlib.Core.Logic.{inl, inr}
 use mathlib.Core.List.{List, [], _∷_, _++_, append-nil}
 use native.Mathlib.Omega.{arith}
-use native.Mathlib.Nat.{eq-or-lt-of-le}
 use borrow.Author.Tests.{eqb-true, eqb-false, eq-eqb, ne-eqb}
 use lib.Dec.{eqb}
-use lib.ListN.{length, getD, set, replicate, length-set, length-append, getD-replicate, List·getD-append}
+use lib.ListN.{length, getD, set, replicate, length-set, length-append, getD-replicate}
 use lib.Seq.{getD-set-same, getD-set-other, getD-append-seam}
 use Rattle.sequencing.specs.Lists.{at, from, upto, filter}
 use Rattle.sequencing.specs.Problem.{T, kind}
@@ -50,6 +49,12 @@ unfolding filter from
 filter-from p r s zero h = refl
 filter-from p r s (suc n) h = ap₂ (λ t l. cond t (s ∷ l) l) (h s (omega arith) (omega arith)) (filter-from p r (suc s) n (λ x l u. h x (omega arith) (omega arith)))
 
+append-other : (l : List ℕ) (a m : ℕ) → (m ≡ length l → ⊥) → getD (l ++ (a ∷ [])) m 0 ≡ getD l m 0
+append-other [] a zero d = absurd (d refl)
+append-other [] a (suc m) d = refl
+append-other (x ∷ l) a zero d = refl
+append-other (x ∷ l) a (suc m) d = append-other l a m (λ e. d (ap suc e))
+
 -- the jobs of kind j of the first i jobs
 pub soFar : List ℕ → ℕ → ℕ → List ℕ
 soFar kinds j i = filter (λ x. eqb j (getD kinds (x - 1) 0)) (upto i)
@@ -79,16 +84,16 @@ pub record Listing (kinds : List ℕ) (total : ℕ) (counts jobs : List ℕ) (i 
   pub long-counts : length counts ≡ 5
   pub long-jobs : length jobs ≡ 300
   pub counted : (j : ℕ) → j < 5 → getD counts j 0 ≡ length (soFar kinds (suc j) i)
-  pub listed : (j n : ℕ) → j < 5 → n < length (soFar kinds (suc j) i) → getD jobs (60 * j + n) 0 ≡ getD (soFar kinds (suc j) i) n 0
+  pub listed : (j n : ℕ) → j < 5 → n < 60 → getD jobs (60 * j + n) 0 ≡ getD (soFar kinds (suc j) i) n 0
 
-pub listing-none : (kinds : List ℕ) (total : ℕ) (counts jobs : List ℕ) → counts ≡ replicate 5 0 → length jobs ≡ 300 → Listing kinds total counts jobs 0
+pub listing-none : (kinds : List ℕ) (total : ℕ) (counts jobs : List ℕ) → counts ≡ replicate 5 0 → jobs ≡ replicate 300 0 → Listing kinds total counts jobs 0
 unfolding soFar filter from
 listing-none kinds total counts jobs e l = record {
   few = omega arith;
   long-counts = ap length e;
-  long-jobs = l;
+  long-jobs = ap length l;
   counted = λ j h. rw e (getD-replicate 5 j 0 0 h);
-  listed = λ j n h l. absurd (omega arith);
+  listed = λ j n h u. rw l (getD-replicate 300 (60 * j + n) 0 0 (omega arith));
 }
 
 module _ (kinds : List ℕ) (total : ℕ) (counts jobs : List ℕ) (i : ℕ) (w : Listing kinds total counts jobs i) where
@@ -104,30 +109,28 @@ module _ (kinds : List ℕ) (total : ℕ) (counts jobs : List ℕ) (i : ℕ) (w 
           rw (soFar-other kinds (suc j) i (λ e. d (omega arith)), getD-set-other counts x j (getD counts x 0 + 1) 0 d) (w .counted j h))
     ]
 
-    list-same : (m : ℕ) → m < length (soFar kinds (suc x) (suc i)) → getD (set jobs (60 * x + getD counts x 0) (i + 1)) (60 * x + m) 0 ≡ getD (soFar kinds (suc x) (suc i)) m 0
+    list-same : (m : ℕ) → m < 60 → getD (set jobs (60 * x + getD counts x 0) (i + 1)) (60 * x + m) 0 ≡ getD (soFar kinds (suc x) (suc i)) m 0
     list-same m l =
         let e = soFar-same kinds (suc x) i of-kind in
-        let a = length-append (soFar kinds (suc x) i) (suc i ∷ []) in
         let k = w .counted x in-five in
-        let u : m < suc (length (soFar kinds (suc x) i)) = omega (arith, ap length e) in
-        elim (eq-or-lt-of-le {n = m} {m = length (soFar kinds (suc x) i)} (omega arith)) [
-          | inl q ↦ (let s : m ≡ getD counts x 0 = omega arith in
+        elim (bool-cases (eqb m (length (soFar kinds (suc x) i)))) [
+          | inl t ↦ (let q = eqb-true m (length (soFar kinds (suc x) i)) t in
+              let s : m ≡ getD counts x 0 = omega arith in
               ap (λ y. getD (set jobs (60 * x + getD counts x 0) (i + 1)) (60 * x + y) 0) s
               ∙ getD-set-same jobs (60 * x + getD counts x 0) (i + 1) 0 (omega (arith, w .long-jobs, listing-room x in-five))
               ∙ rw (e, q) (omega (arith, getD-append-seam (soFar kinds (suc x) i) (suc i) [] 0)))
-          | inr q ↦ (
-              getD-set-other jobs (60 * x + getD counts x 0) (60 * x + m) (i + 1) 0 (λ s. omega arith)
-              ∙ w .listed x m in-five q
-              ∙ sym (rw e (List·getD-append (soFar kinds (suc x) i) (suc i ∷ []) 0 m q)))
+          | inr t ↦ (let d = eqb-false m (length (soFar kinds (suc x) i)) t in
+              getD-set-other jobs (60 * x + getD counts x 0) (60 * x + m) (i + 1) 0 (λ s. d (omega arith))
+              ∙ w .listed x m in-five l
+              ∙ sym (rw e (append-other (soFar kinds (suc x) i) (suc i) m d)))
         ]
 
-    list-other : (j m : ℕ) → j < 5 → (j ≡ x → ⊥) → m < length (soFar kinds (suc j) (suc i))
+    list-other : (j m : ℕ) → j < 5 → (j ≡ x → ⊥) → m < 60
         → getD (set jobs (60 * x + getD counts x 0) (i + 1)) (60 * j + m) 0 ≡ getD (soFar kinds (suc j) (suc i)) m 0
     list-other j m h d l =
         let e = soFar-other kinds (suc j) i (λ q. d (omega arith)) in
-        let u : m < length (soFar kinds (suc j) i) = omega (arith, ap length e) in
-        getD-set-other jobs (60 * x + getD counts x 0) (60 * j + m) (i + 1) 0 (λ s. d (omega (arith, soFar-short kinds (suc j) i, listing-room x in-five)))
-        ∙ w .listed j m h u ∙ sym (rw e)
+        getD-set-other jobs (60 * x + getD counts x 0) (60 * j + m) (i + 1) 0 (λ s. d (omega (arith, listing-room x in-five)))
+        ∙ w .listed j m h l ∙ sym (rw e)
 
     pub listing-more : Listing kinds total (set counts x (getD counts x 0 + 1)) (set jobs (60 * x + getD counts x 0) (i + 1)) (i + 1)
     listing-more =
@@ -138,8 +141,8 @@ module _ (kinds : List ℕ) (total : ℕ) (counts jobs : List ℕ) (i : ℕ) (w 
           long-jobs = length-set jobs (60 * x + getD counts x 0) (i + 1) ∙ w .long-jobs;
           counted = λ j h. count-more j h ∙ rw f;
           listed = λ j m h l. elim (bool-cases (eqb j x)) [
-            | inl t ↦ (let e = eqb-true j x t in rw e (list-same m (rw (e, f) at l) ∙ rw f))
-            | inr t ↦ list-other j m h (eqb-false j x t) (rw f at l) ∙ rw f
+            | inl t ↦ (let e = eqb-true j x t in rw e (list-same m l ∙ rw f))
+            | inr t ↦ list-other j m h (eqb-false j x t) l ∙ rw f
           ];
         }
 
@@ -170,7 +173,7 @@ module _ (q : Queue) (v : Valid q) where
       let e : i ≡ q .jobs = omega (arith, w .few) in
       let all : Listing (q .«job_kinds») (q .jobs) counts jobs (q .jobs) = rw e at w in
       record {
-        counts-are = elim [ zero ↦ λ l u. absurd (omega arith) | suc j ↦ λ l u. rw (jobs-of (suc j)) (all .counted j (omega (arith, v .kinds))) ];
+        counts-are = elim [ zero ↦ λ l u. absurd (omega arith) | suc j ↦ λ l u. rw (jobs-of (suc j)) (all .counted j (omega arith)) ];
         jobs-are = elim [
           | zero ↦ λ n l u a b. absurd (omega arith)
           | suc j ↦ elim [
@@ -178,7 +181,7 @@ module _ (q : Queue) (v : Valid q) where
             | suc n ↦ λ l u a b. (
                 let r : suc j - 1 ≡ j = omega arith in
                 let s : suc n - 1 ≡ n = omega arith in
-                rw (r, s, jobs-of (suc j)) (all .listed j n (omega (arith, v .kinds)) (omega (arith, rw (jobs-of (suc j)) at b))))
+                rw (r, s, jobs-of (suc j)) (all .listed j n (omega arith) (omega arith)))
           ]
         ];
       }

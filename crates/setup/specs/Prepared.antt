@@ -15,5 +15,5 @@ pub record Prepared (P : Problem) (counts jobs strides : List ℕ) (size : ℕ) 
   pub counts-long : length counts ≡ 5
   pub jobs-long : length jobs ≡ 300
   pub strides-long : length strides ≡ 5
-  pub strides-are : (x : ℕ) → 1 ≤ x → x ≤ P .N → at strides x ≡ stride (all P) x
+  pub strides-are : (x : ℕ) → 1 ≤ x → x ≤ 5 → at strides x ≡ stride (all P) x
   pub size-is : size ≡ block P

@@ -24,7 +24,7 @@ pub struct Setup {
 
 // Lists the jobs of each kind by hand-in, sixty places a kind, and counts them.
 fn list_jobs(queue: Queue, counts: &mut [u32], jobs: &mut [u32])
-    requires { ⌜ Valid queue × ((now counts ≡ replicate 5 0) × (length (now jobs) ≡ 300)) ⌝ }
+    requires { ⌜ Valid queue × ((now counts ≡ replicate 5 0) × (now jobs ≡ replicate 300 0)) ⌝ }
     ensures { λ _. ⌜ Listed (problem queue) (now (counts .exit)) (now (jobs .exit)) ⌝ }
 {
     let job_kinds = queue.job_kinds;
@@ -44,6 +44,7 @@ fn set_strides(counts: &[u32], kinds: usize, strides: &mut [usize]) -> usize
     requires { ⌜ (kinds ≤ 5) × ((length (now counts) ≡ 5) × ((length (now strides) ≡ 5) × ((j : ℕ) → j < kinds → getD (now counts) j 0 ≤ 60))) ⌝ }
     ensures { λ r. ⌜ r ≡ size (take kinds (now (counts .entry))) ⌝ }
     ensures { λ _. ⌜ ((x : ℕ) → 1 ≤ x → x ≤ kinds → at (now (strides .exit)) x ≡ stride (take kinds (now (counts .entry))) x) ⌝ }
+    ensures { λ _. ⌜ ((x : ℕ) → kinds < x → at (now (strides .exit)) x ≡ at (now (strides .entry)) x) ⌝ }
 {
     let mut product: usize = 1;
     let mut j: usize = 0;

@@ -4,7 +4,7 @@ use setup::Setup;
 use table::Least;
 ghost use mathlib.Core.Path.{_≡_};
 ghost use mathlib.Core.Bool.{cond};
-ghost use mathlib.Core.Option.{some};
+ghost use mathlib.Core.Option.{none, some};
 ghost use Prim.Native.Nat.{ℕ, _-_, _≤_, _<_};
 ghost use lib.Dec.{ltb};
 ghost use lib.ListN.{length, getD, take};
@@ -37,6 +37,7 @@ pub fn best_next(
     requires { ⌜ Valid queue × (Prepared (problem queue) (setup .counts) (setup .jobs) (setup .strides) (setup .block) × (Earlier (problem queue) (now table) (block (problem queue)) × ((entries (problem queue) ≤ length (now table)) × ((length (now left) ≡ 5) × ((take (queue .kinds) (now left) ≡ digits (all (problem queue)) index) × ((index < block (problem queue)) × (row ≤ queue .kinds))))))) ⌝ }
     ensures { λ r. ⌜ r .cost ≡ stored (least (choice (problem queue) row (digits (all (problem queue)) index)) (queue .kinds)) ⌝ }
     ensures { λ r. ⌜ ((c : ℕ) → least (choice (problem queue) row (digits (all (problem queue)) index)) (queue .kinds) ≡ some c → r .kind ≡ argLeast (choice (problem queue) row (digits (all (problem queue)) index)) (queue .kinds)) ⌝ }
+    ensures { λ r. ⌜ (least (choice (problem queue) row (digits (all (problem queue)) index)) (queue .kinds) ≡ none → r .kind ≡ 0) ⌝ }
 {
     let kinds = queue.kinds as usize;
     let gaps = queue.gaps;

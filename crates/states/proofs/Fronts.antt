@@ -84,11 +84,12 @@ pub record Striding (counts : List ℕ) (kinds : ℕ) (strides₀ strides : List
   pub front : Front size (λ j. 61 ^ j) counts kinds product j
   pub long : length strides ≡ length strides₀
   pub set-to : (i : ℕ) → i < j → getD strides i 0 ≡ size (take i counts)
+  pub rest : (i : ℕ) → j ≤ i → getD strides i 0 ≡ getD strides₀ i 0
 
 module _ (counts : List ℕ) (kinds : ℕ) (strides₀ : List ℕ) where
   pub striding-none : Striding counts kinds strides₀ strides₀ 1 0
   unfolding size
-  striding-none = record { front = record { few = omega arith; means = refl; small = omega arith }; long = refl; set-to = λ i h. absurd (omega arith) }
+  striding-none = record { front = record { few = omega arith; means = refl; small = omega arith }; long = refl; set-to = λ i h. absurd (omega arith); rest = λ i h. refl }
 
   module _ (all-counts : kinds ≤ length counts) (all-strides : kinds ≤ length strides₀) (few : (j : ℕ) → j < kinds → getD counts j 0 ≤ 60)
       (strides : List ℕ) (product j : ℕ) (w : Striding counts kinds strides₀ strides product j) where
@@ -111,6 +112,7 @@ module _ (counts : List ℕ) (kinds : ℕ) (strides₀ : List ℕ) where
             | inl e ↦ rw e (getD-set-same strides j product 0 (omega (arith, w .long)) ∙ w .front .means)
             | inr g ↦ getD-set-other strides j i product 0 (λ e. omega arith) ∙ w .set-to i g
           ];
+          rest = λ i l. getD-set-other strides j i product 0 (λ e. omega arith) ∙ w .rest i (omega arith);
         }
 
     pub striding-done : kinds ≤ j → (x : ℕ) → 1 ≤ x → x ≤ kinds → at strides x ≡ stride (take kinds counts) x
@@ -118,3 +120,7 @@ module _ (counts : List ℕ) (kinds : ℕ) (strides₀ : List ℕ) where
     striding-done h (suc i) l u =
         w .set-to i (omega arith)
         ∙ sym (stride-size (take kinds counts) i (omega (arith, length-take-le kinds counts all-counts)) ∙ ap size (take-take i kinds counts (omega arith)))
+
+    pub striding-rest : kinds ≤ j → (x : ℕ) → kinds < x → at strides x ≡ at strides₀ x
+    striding-rest h zero u = absurd (omega arith)
+    striding-rest h (suc i) u = w .rest i (omega (arith, w .front .few))

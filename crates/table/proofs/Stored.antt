@@ -60,6 +60,13 @@ stored-taken (some a) (some b) kind arg x h k e c l = elim (bool-cases (leb a b)
   | inr q ↦ rw (q, lt-ltb b a (leb-false a b q))
 ]
 
+-- nothing is taken where there is nothing
+pub stored-none : (a b : Option ℕ) (kind x : ℕ) → (a ≡ none → kind ≡ 0) → lower a b ≡ none → cond (ltb (stored b) (stored a)) x kind ≡ 0
+stored-none none none kind x e l = e refl
+stored-none none (some b) kind x e l = absurd (none-some b (sym l))
+stored-none (some a) none kind x e l = absurd (none-some a (sym l))
+stored-none (some a) (some b) kind x e l = absurd (none-some (min a b) (sym l))
+
 pub fits-least : (f : ℕ → Option ℕ) (n : ℕ) → ((x : ℕ) → 1 ≤ x → x ≤ n → Fits (f x)) → Fits (least f n)
 fits-least f n h =
     fits (least f n)

@@ -3,7 +3,7 @@ use units::PupilSeconds;
 use units::Seconds;
 ghost use mathlib.Core.Path.{_≡_};
 ghost use mathlib.Core.Bool.{cond, _&&_};
-ghost use mathlib.Core.Option.{some};
+ghost use mathlib.Core.Option.{none, some};
 ghost use Prim.Native.Nat.{ℕ, min, _+_, _-_, _*_, _^_, _≤_, _<_};
 ghost use lib.Dec.{leb, ltb};
 ghost use lib.ListN.{length, getD};
@@ -65,6 +65,7 @@ pub fn least_of(next: &[u64], gaps: &[u32], row: usize, goal: u32, weight: u64) 
     requires { ⌜ Ready (now next) (now gaps) row weight × (goal ≡ 1 → weight ≡ 1) ⌝ }
     ensures { λ r. ⌜ r .cost ≡ stored (least (candidate (now (next .entry)) (now (gaps .entry)) row weight) 5) ⌝ }
     ensures { λ r. ⌜ ((c : ℕ) → least (candidate (now (next .entry)) (now (gaps .entry)) row weight) 5 ≡ some c → r .kind ≡ argLeast (candidate (now (next .entry)) (now (gaps .entry)) row weight) 5) ⌝ }
+    ensures { λ r. ⌜ (least (candidate (now (next .entry)) (now (gaps .entry)) row weight) 5 ≡ none → r .kind ≡ 0) ⌝ }
 {
     let mut best = Least {
         cost: NONE,

@@ -16,7 +16,7 @@ abbrev μ-loop : tie.MeasureT-loop
 
 taken : (c : tie.After-best-next Inv-loop μ-loop)
     → Taking (c .before .before .before .before .before .before .before .before .before .before .before .before .args .queue) (c .before .before .before .before .before .before .before .before .before .before .before .before .args .setup .counts) (c .before .before .before .before .before .before .before .before .before .before .before .before .args .setup .jobs) (c .before .before .before .before .before .before .before .before .before .before .before .before .args .setup .strides) (c .before .before .before .loop .order) (c .before .before .before .loop .left) (c .before .before .before .loop .index) (c .before .before .before .loop .place) (c .best-next .result .kind)
-taken c = taking (c .before .before .before .before .before .before .before .before .before .before .before .before .args .queue) (c .before .before .before .before .before .before .before .before .before .before .before .before .pre .0) _ _ _ _ (c .before .before .before .before .before .before .before .before .before .before .before .before .pre .1 .0) _ _ _ _ _ (c .before .before .before .loop .inv) (c .before .before .loop-test .taken) _ (c .best-next .ensures .1)
+taken c = taking (c .before .before .before .before .before .before .before .before .before .before .before .before .args .queue) (c .before .before .before .before .before .before .before .before .before .before .before .before .pre .0) _ _ _ _ (c .before .before .before .before .before .before .before .before .before .before .before .before .pre .1 .0) _ _ _ _ _ (c .before .before .before .loop .inv) (c .before .before .loop-test .taken) _ (c .best-next .ensures .1 .0)
 
 sub-index : tie.Need-sub-index Inv-loop μ-loop
 sub-index c = some-block (c .before .before .before .before .before .before .before .before .args .queue) (c .before .before .before .before .before .before .before .before .pre .0) _ _ _ _ (c .before .before .before .before .before .before .before .before .pre .1 .0)

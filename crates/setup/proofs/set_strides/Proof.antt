@@ -2,7 +2,7 @@
 -- Assumes nothing.
 use Prim.Native.Nat.{_-_}
 use native.Mathlib.Omega.{arith}
-use Rattle.states.proofs.Fronts.{Striding, striding-none, product-fits, striding-more, striding-done, front-done}
+use Rattle.states.proofs.Fronts.{Striding, striding-none, product-fits, striding-more, striding-done, striding-rest, front-done}
 use borrow.Author.Needs.{needs}
 use Rattle.setup.proofs.set_strides.Statement.{statement}
 use Rattle.setup.proofs.set_strides.Tie as tie
@@ -29,7 +29,11 @@ loop-again : tie.Need-loop-again Inv-loop μ-loop
 loop-again c = striding-more _ _ _ (omega arith) (omega arith) (c .before .before .before .pre .1 .1 .1) _ _ _ (c .before .before .loop .inv) (c .before .loop-test .taken)
 
 returns : tie.Need-returns Inv-loop μ-loop
-returns c = (front-done _ _ _ _ _ _ (c .before .loop .inv .front) (c .loop-test .left), striding-done _ _ _ (omega arith) (omega arith) (c .before .before .pre .1 .1 .1) _ _ _ (c .before .loop .inv) (c .loop-test .left))
+returns c =
+    let few = c .before .before .pre .1 .1 .1 in
+    let w = c .before .loop .inv in
+    let done = c .loop-test .left in
+    (front-done _ _ _ _ _ _ (w .front) done, (striding-done _ _ _ (omega arith) (omega arith) few _ _ _ w done, striding-rest _ _ _ (omega arith) (omega arith) few _ _ _ w done))
 
 pub set-strides-spec : {M : Type 1} → statement M
 set-strides-spec =

@@ -46,7 +46,7 @@ returns c =
     let l = look start in
     let row = start .args .row in
     let found = rw (c .before .before .before .load-next .ensures, c .before .before .before .before .before .stage-weight .ensures, c .before .before .before .before .before .before .weight-left .ensures, weighs l) at (c .least-of .ensures) in
-    (found .0 ∙ ap stored (least-by-table l row), λ d e. found .1 d (least-by-table l row ∙ e) ∙ taken-by-table l row d e)
+    (found .0 ∙ ap stored (least-by-table l row), (λ d e. found .1 .0 d (least-by-table l row ∙ e) ∙ taken-by-table l row d e, λ e. found .1 .1 (least-by-table l row ∙ e)))
 
 pub best-next-spec : {M : Type 1} → statement M
 best-next-spec =
