@@ -28,17 +28,20 @@ module _ (f : Settings) (gaps weights first last : List ℕ) where
       → (first ≡ filled 5 (map (λ w. w .0) windows)) × (last ≡ filled 5 (map (λ w. w .1) windows)) → headFrom ≡ headOf f rows ws windows
   head-is rows ws windows g w p = rw (g, w, p .0, p .1)
 
-pub jobs-are : (q : Queue) (t : ℕ) (array kinds : List ℕ) → array ≡ filled 60 kinds
-    → record {
-      kinds = q .kinds;
-      goal = q .goal;
-      «max_shift» = q .«max_shift»;
-      start = q .start;
-      gaps = q .gaps;
-      weights = q .weights;
-      «first_places» = q .«first_places»;
-      «last_places» = q .«last_places»;
-      jobs = t;
-      «job_kinds» = array;
-    } ≡ withJobs q t kinds
-jobs-are q t array kinds e = rw e
+module _ (q : Queue) (t : ℕ) (array : List ℕ) where
+  abbrev pub withArray : Queue
+  withArray = record {
+    kinds = q .kinds;
+    goal = q .goal;
+    «max_shift» = q .«max_shift»;
+    start = q .start;
+    gaps = q .gaps;
+    weights = q .weights;
+    «first_places» = q .«first_places»;
+    «last_places» = q .«last_places»;
+    jobs = t;
+    «job_kinds» = array;
+  }
+
+  pub jobs-are : (kinds : List ℕ) → array ≡ filled 60 kinds → withArray ≡ withJobs q t kinds
+  jobs-are kinds e = rw e

@@ -1,3 +1,4 @@
 pub mod Parts
 pub mod Loops
 pub mod Built
+pub mod Rests

@@ -15,8 +15,10 @@ ghost use lib.Seq.{sets};
 ghost use Rattle.number.specs.Readers.{found, refused, times};
 ghost use Rattle.fields.specs.Fields.{field, within};
 ghost use Rattle.fields.specs.Answers.{asOutcome};
+ghost use Rattle.fields.specs.Lists.{filled};
+ghost use Rattle.queue.specs.Record.{windowOk};
 ghost use Rattle.queue.specs.Reading.{window, placed, settings, tables, head, jobs, closed, asReading, readQueue};
-ghost use Rattle.queue_reader.specs.Answers.{asFront, asPlaces, asHead};
+ghost use Rattle.queue_reader.specs.Answers.{asFront, asPlaces, asHead, limits, headEnding, readingEnding};
 
 // What reading them finds: the settings and the position behind them.
 pub enum Front {
@@ -36,31 +38,39 @@ pub struct Head {
     pub queue: Queue,
 }
 
+// The weights and the allowed places of every kind.
+pub struct Limits {
+    pub outcome: Outcome,
+    pub weights: [u32; 5],
+    pub first_places: [u32; 5],
+    pub last_places: [u32; 5],
+}
+
 // N, goal, shift and start.
 fn read_settings(bytes: &[u8], at: usize) -> Front
     ensures { λ r. ⌜ r ≡ asFront (settings (now (bytes .entry)) at) ⌝ }
 {
     match fields_reader::read_field(bytes, at, 1, 5, Reason::Kinds) {
-        Field::Refused(why) => Front::Refused(why),
+        Field::Refused(why) => return Front::Refused(why),
         Field::Value {
             value: kinds,
             next: a,
         } => match fields_reader::read_field(bytes, a, 1, 2, Reason::Goal) {
-            Field::Refused(why) => Front::Refused(why),
+            Field::Refused(why) => return Front::Refused(why),
             Field::Value {
                 value: goal,
                 next: b,
             } => match fields_reader::read_field(bytes, b, 0, 60, Reason::Shift) {
-                Field::Refused(why) => Front::Refused(why),
+                Field::Refused(why) => return Front::Refused(why),
                 Field::Value {
                     value: max_shift,
                     next: c,
                 } => match fields_reader::read_field(bytes, c, 0, kinds, Reason::Start) {
-                    Field::Refused(why) => Front::Refused(why),
+                    Field::Refused(why) => return Front::Refused(why),
                     Field::Value {
                         value: start,
                         next: d,
-                    } => Front::Known(
+                    } => return Front::Known(
                         Settings {
                             kinds,
                             goal,
@@ -84,12 +94,22 @@ fn read_gaps(bytes: &[u8], at: usize, kinds: usize, gaps: &mut [u32]) -> Outcome
     let mut i = at;
     let mut row: usize = 0;
     while row <= kinds {
-        match fields_reader::read_run(bytes, i, kinds, 0, 65535, Reason::Gap, gaps, 5 * row) {
+        let outcome = fields_reader::read_run(
+            bytes,
+            i,
+            kinds,
+            0,
+            65535,
+            Reason::Gap,
+            gaps,
+            5 * row,
+        );
+        match outcome {
             Outcome::Next(next) => {
                 i = next;
             }
-            Outcome::Refused(why) => {
-                return Outcome::Refused(why);
+            Outcome::Refused(_) => {
+                return outcome;
             }
         }
         row = row + 1;
@@ -97,35 +117,45 @@ fn read_gaps(bytes: &[u8], at: usize, kinds: usize, gaps: &mut [u32]) -> Outcome
     Outcome::Next(i)
 }
 
+// Whether a kind may have these places.
+fn is_window(first: u64, last: u64) -> bool
+    ensures { λ r. ⌜ r ≡ windowOk (first, last) ⌝ }
+{
+    if first < 1 {
+        return false;
+    }
+    if last < first {
+        return false;
+    }
+    if 60 < last {
+        return false;
+    }
+    true
+}
+
 // The allowed places of one kind: both numbers are read before they are judged.
 fn read_window(bytes: &[u8], at: usize) -> Places
     ensures { λ r. ⌜ r ≡ asPlaces (window (now (bytes .entry)) at) ⌝ }
 {
     match number::read_number(bytes, at, 3) {
-        Read::Refused(why) => Places::Refused(why),
+        Read::Refused(why) => return Places::Refused(why),
         Read::Value {
             value: first,
             next: a,
         } => match number::read_number(bytes, a, 3) {
-            Read::Refused(why) => Places::Refused(why),
+            Read::Refused(why) => return Places::Refused(why),
             Read::Value {
                 value: last,
                 next: b,
             } => {
-                if first < 1 {
+                if !is_window(first, last) {
                     return Places::Refused(Reason::Window);
                 }
-                if last < first {
-                    return Places::Refused(Reason::Window);
-                }
-                if 60 < last {
-                    return Places::Refused(Reason::Window);
-                }
-                Places::Window {
+                return Places::Window {
                     first: first as u32,
                     last: last as u32,
                     next: b,
-                }
+                };
             }
         },
     }
@@ -165,6 +195,44 @@ fn read_windows(
     Outcome::Next(i)
 }
 
+// The weights and the allowed places.
+fn read_limits(bytes: &[u8], at: usize, kinds: usize) -> Limits
+    requires { ⌜ kinds ≤ 5 ⌝ }
+    ensures { λ r. ⌜ r .outcome ≡ asOutcome (limits kinds (now (bytes .entry)) at) ⌝ }
+    ensures { λ r. ⌜ ((ws : List ℕ) (windows : List (ℕ × ℕ)) (n : ℕ) → limits kinds (now (bytes .entry)) at ≡ found (ws, windows) n → (r .weights ≡ filled 5 ws) × (r .«first_places» ≡ filled 5 (map (λ w. w .0) windows)) × (r .«last_places» ≡ filled 5 (map (λ w. w .1) windows))) ⌝ }
+{
+    let mut weights = [0u32; 5];
+    let mut first_places = [0u32; 5];
+    let mut last_places = [0u32; 5];
+    let outcome = fields_reader::read_run(
+        bytes,
+        at,
+        kinds,
+        0,
+        1000,
+        Reason::Weight,
+        &mut weights,
+        0,
+    );
+    match outcome {
+        Outcome::Refused(_) => return Limits {
+            outcome,
+            weights,
+            first_places,
+            last_places,
+        },
+        Outcome::Next(next) => {
+            let end = read_windows(bytes, next, kinds, &mut first_places, &mut last_places);
+            return Limits {
+                outcome: end,
+                weights,
+                first_places,
+                last_places,
+            };
+        }
+    }
+}
+
 // A head that was refused.
 fn no_head(why: Reason) -> Head
     ensures { λ r. ⌜ r ≡ asHead (refused why) ⌝ }
@@ -186,6 +254,16 @@ fn no_head(why: Reason) -> Head
     }
 }
 
+// The head whose last part ends so.
+fn as_head(outcome: Outcome, queue: Queue) -> Head
+    ensures { λ r. ⌜ r ≡ headEnding outcome queue ⌝ }
+{
+    match outcome {
+        Outcome::Refused(why) => return no_head(why),
+        Outcome::Next(_) => return Head { outcome, queue },
+    }
+}
+
 // The gaps, the weights and the allowed places.
 fn read_tables(bytes: &[u8], at: usize, front: Settings) -> Head
     requires { ⌜ front .kinds ≤ 5 ⌝ }
@@ -193,41 +271,28 @@ fn read_tables(bytes: &[u8], at: usize, front: Settings) -> Head
 {
     let kinds = front.kinds as usize;
     let mut gaps = [0u32; 30];
-    let mut weights = [0u32; 5];
-    let mut first = [0u32; 5];
-    let mut last = [0u32; 5];
     match read_gaps(bytes, at, kinds, &mut gaps) {
-        Outcome::Refused(why) => no_head(why),
-        Outcome::Next(a) => match fields_reader::read_run(
-            bytes,
-            a,
-            kinds,
-            0,
-            1000,
-            Reason::Weight,
-            &mut weights,
-            0,
-        ) {
-            Outcome::Refused(why) => no_head(why),
-            Outcome::Next(b) => match read_windows(bytes, b, kinds, &mut first, &mut last) {
-                Outcome::Refused(why) => no_head(why),
-                Outcome::Next(c) => Head {
-                    outcome: Outcome::Next(c),
-                    queue: Queue {
-                        kinds: front.kinds,
-                        goal: front.goal,
-                        max_shift: front.max_shift,
-                        start: front.start,
-                        gaps,
-                        weights,
-                        first_places: first,
-                        last_places: last,
-                        jobs: 0,
-                        job_kinds: [0u32; 60],
-                    },
-                },
-            },
-        },
+        Outcome::Refused(why) => return no_head(why),
+        Outcome::Next(next) => {
+            let limits = read_limits(bytes, next, kinds);
+            let outcome = limits.outcome;
+            let weights = limits.weights;
+            let first_places = limits.first_places;
+            let last_places = limits.last_places;
+            let queue = Queue {
+                kinds: front.kinds,
+                goal: front.goal,
+                max_shift: front.max_shift,
+                start: front.start,
+                gaps,
+                weights,
+                first_places,
+                last_places,
+                jobs: 0,
+                job_kinds: [0u32; 60],
+            };
+            return as_head(outcome, queue);
+        }
     }
 }
 
@@ -236,8 +301,8 @@ fn read_head(bytes: &[u8], at: usize) -> Head
     ensures { λ r. ⌜ r ≡ asHead (head (now (bytes .entry)) at) ⌝ }
 {
     match read_settings(bytes, at) {
-        Front::Refused(why) => no_head(why),
-        Front::Known(front, next) => read_tables(bytes, next, front),
+        Front::Refused(why) => return no_head(why),
+        Front::Known(front, next) => return read_tables(bytes, next, front),
     }
 }
 
@@ -253,41 +318,46 @@ fn refused_reading(why: Reason) -> Reading
     }
 }
 
+// The reading whose last part ends so, with what is left over.
+fn end_reading(bytes: &[u8], outcome: Outcome, queue: Queue) -> Reading
+    ensures { λ r. ⌜ r ≡ readingEnding (now (bytes .entry)) outcome queue ⌝ }
+{
+    match outcome {
+        Outcome::Refused(why) => return refused_reading(why),
+        Outcome::Next(next) => {
+            if next != bytes.len() {
+                return refused_reading(Reason::Trailing);
+            }
+            return Reading {
+                verdict: Verdict::Accepted,
+                queue,
+            };
+        }
+    }
+}
+
 // The jobs of a queue, up to the message's end.
 fn read_jobs(bytes: &[u8], at: usize, queue: Queue) -> Reading
     ensures { λ r. ⌜ r ≡ asReading (closed (jobs queue) (now (bytes .entry)) at) ⌝ }
 {
     match fields_reader::read_field(bytes, at, 0, 60, Reason::Jobs) {
-        Field::Refused(why) => refused_reading(why),
-        Field::Value {
-            value: jobs,
-            next: a,
-        } => {
+        Field::Refused(why) => return refused_reading(why),
+        Field::Value { value: jobs, next } => {
             let mut job_kinds = [0u32; 60];
-            match fields_reader::read_run(
+            let outcome = fields_reader::read_run(
                 bytes,
-                a,
+                next,
                 jobs as usize,
                 1,
                 queue.kinds,
                 Reason::Kind,
                 &mut job_kinds,
                 0,
-            ) {
-                Outcome::Refused(why) => refused_reading(why),
-                Outcome::Next(b) => {
-                    if b != bytes.len() {
-                        return refused_reading(Reason::Trailing);
-                    }
-                    let mut whole = queue;
-                    whole.jobs = jobs;
-                    whole.job_kinds = job_kinds;
-                    Reading {
-                        verdict: Verdict::Accepted,
-                        queue: whole,
-                    }
-                }
-            }
+            );
+            let mut whole = queue;
+            whole.jobs = jobs;
+            whole.job_kinds = job_kinds;
+            return end_reading(bytes, outcome, whole);
         }
     }
 }
@@ -296,20 +366,18 @@ fn read_jobs(bytes: &[u8], at: usize, queue: Queue) -> Reading
 pub fn read_queue(bytes: &[u8]) -> Reading
     ensures { λ r. ⌜ r ≡ readQueue (now (bytes .entry)) ⌝ }
 {
-    if openings::has_opening(bytes, b"QS") {
-        match fields_reader::read_field(bytes, 2, 1, 1, Reason::Edition) {
-            Field::Refused(why) => refused_reading(why),
-            Field::Value { value: _, next } => {
-                let front = read_head(bytes, next);
-                let outcome = front.outcome;
-                let queue = front.queue;
-                match outcome {
-                    Outcome::Refused(why) => refused_reading(why),
-                    Outcome::Next(a) => read_jobs(bytes, a, queue),
-                }
+    if !openings::has_opening(bytes, b"QS") {
+        return refused_reading(Reason::Opening);
+    }
+    match fields_reader::read_field(bytes, 2, 1, 1, Reason::Edition) {
+        Field::Refused(why) => return refused_reading(why),
+        Field::Value { value: _, next } => {
+            let front = read_head(bytes, next);
+            let outcome = front.outcome;
+            match outcome {
+                Outcome::Refused(why) => return refused_reading(why),
+                Outcome::Next(a) => return read_jobs(bytes, a, front.queue),
             }
         }
-    } else {
-        refused_reading(Reason::Opening)
     }
 }

@@ -24,13 +24,13 @@ read-run-requires : tie.Need-read-run-requires Inv-loop μ-loop
 read-run-requires c κs = omega (arith, c .before .before .loop .inv .long)
 
 same-length : tie.Need-same-length Inv-loop μ-loop
-same-length c = c .before .before .before .before .before .read-run .kept .1 .1 .1 .1 .1 .1 .0 ∙ c .before .before .before .before .before .before .before .before .loop .inv .long
+same-length c = c .before .before .before .before .read-run .kept .1 .1 .1 .1 .1 .1 .0 ∙ c .before .before .before .before .before .before .before .loop .inv .long
 
 returns : tie.Need-returns Inv-loop μ-loop
 returns c =
-    let stopped = as-stopped _ _ (sym (c .before .before .before .before .before .read-run .ensures .0) ∙ c .before .why .given .1) in
-    let loop = c .before .before .before .before .before .before .before .before .loop .inv .loop in (
-      loop-stop _ _ _ _ _ _ _ _ _ loop _ (omega arith) stopped,
+    let stopped = as-stopped _ _ (sym (c .before .before .before .before .read-run .ensures .0) ∙ c .enum-told .given .1) in
+    let loop = c .before .before .before .before .before .before .before .loop .inv .loop in (
+      c .enum-told .given .1 ∙ loop-stop _ _ _ _ _ _ _ _ _ loop _ (omega arith) stopped,
       λ rows n f. absurd (loop-stopped _ _ _ _ _ _ _ _ _ loop _ (omega arith) stopped rows n f),
     )
 
@@ -40,7 +40,7 @@ loop-less c = omega arith
 loop-again : tie.Need-loop-again Inv-loop μ-loop
 loop-again c =
     let run = c .before .before .before .before .before .read-run in
-    rw (run .ensures .1) (rows-more _ _ _ _ _ _ _ (c .before .before .before .before .before .before .before .before .loop .inv) _ (c .before .before .before .before .before .before .before .loop-test .taken) (sym (run .ensures .0) ∙ c .before .next .given .1))
+    rw (run .ensures .1) (rows-more _ _ _ _ _ _ _ (c .before .before .before .before .before .before .before .before .loop .inv) _ (c .before .before .before .before .before .before .before .loop-test .taken) (sym (run .ensures .0) ∙ c .before .outcome .given .1))
 
 same-length-2 : tie.Need-same-length-2 Inv-loop μ-loop
 same-length-2 c = c .before .loop .inv .long

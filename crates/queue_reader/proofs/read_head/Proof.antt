@@ -35,7 +35,7 @@ read-head-spec =
     (λ c κs. search needs)
     (λ c. search needs)
     (λ c κs. search needs)
+    returns
     (λ c. search needs)
     read-tables-requires
-    returns
     returns-2)
