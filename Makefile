@@ -13,7 +13,7 @@ PROGRAMS = $(TESTS:%=target/c/%)
 HEADERS = include/kippertarn.h examples/messages.h tests/c/reference.h tests/c/lent.h tests/c/queues.h bench/plain.h
 
 # More crates and edits at a time than processors, so that none idles while the last of a batch ends: one for each GB free, 2 to 16.
-JOBS := $(shell awk '/^MemAvailable/ { n = int($$2 / 1000000); print (n < 2 ? 2 : n > 16 ? 16 : n) }' /proc/meminfo)
+JOBS := $(shell awk '/^MemAvailable/ { n = int($$2 / 1000000); print (n < 2 ? 2 : n > 16 ? 16 : n) }' /proc/meminfo 2> /dev/null)
 export RT_JOBS ?= $(JOBS)
 
 # A check copies thousands of small files: into memory, where that has room for all at a time and lets programs run.
