@@ -1,5 +1,3 @@
-.PHONY: test lib install archive c-test soak bench valgrind
-
 CFLAGS = -std=c99 -O2 -Wall -Wextra -Wpedantic -Wconversion -Werror
 CXXFLAGS = -std=c++11 -O2 -Wall -Wextra -Wpedantic -Wconversion -Werror
 PREFIX = /usr/local
@@ -12,13 +10,15 @@ TESTS = cases source limits messages random orders
 PROGRAMS = $(TESTS:%=target/c/%)
 HEADERS = include/kippertarn.h examples/messages.h tests/c/reference.h tests/c/lent.h tests/c/queues.h bench/plain.h
 
-# More crates and edits at a time than processors, so that none idles while the last of a batch ends: one for each GB free, 2 to 16.
-JOBS := $(shell awk '/^MemAvailable/ { n = int($$2 / 1000000); print (n < 2 ? 2 : n > 16 ? 16 : n) }' /proc/meminfo 2> /dev/null)
+.PHONY: test lib install archive c-test soak bench valgrind run-program run-header run-archive run-example run-text $(TESTS:%=run-%)
+
+# Two crates or edits at a time for each processor: with fewer, one idles while the last of a batch ends; with more, they crowd the cache.
+JOBS := $(shell expr 2 '*' "$$(nproc 2> /dev/null || echo 2)")
 export RT_JOBS ?= $(JOBS)
 
 # A check copies thousands of small files: into memory, where that has room for all at a time and lets programs run.
 MEMORY := $(shell room=$$(mktemp -d /dev/shm/room.XXXXXX 2> /dev/null) && cp /bin/true $$room && $$room/true \
-	&& df -Pk $$room | awk 'NR == 2 && $$4 > 4000000 { print "/dev/shm" }'; rm -rf "$$room")
+	&& df -Pk $$room | awk 'NR == 2 && $$4 > 2000000 { print "/dev/shm" }'; rm -rf "$$room")
 ifneq ($(MEMORY),)
 export TMPDIR ?= $(MEMORY)
 endif
@@ -29,7 +29,7 @@ test: c-test
 
 # target/lib/libkippertarn.a and target/include/kippertarn.h, with a pkg-config file
 lib:
-	rt check $$(sed -n 's/^kippertarn: *//p' crates.txt)
+	rt check planner plan_reader $(ALSO)
 	rt staticlib kippertarn
 	mkdir -p target/lib/pkgconfig target/include
 	cp target/staticlib/libkippertarn.a target/lib/libkippertarn.a
@@ -67,19 +67,25 @@ target/c/bench: bench/bench.c $(ARCHIVE) $(HEADERS)
 target/bin/plan_queue: archive
 	rt check plan_queue
 
-c-test: $(PROGRAMS) target/c/plan
+# What the program needs beside the archive is proved with it, side by side; then two parts at a time.
+c-test: ALSO = finishing
+c-test: archive
+	@$(MAKE) --no-print-directory -j 2 -O ARCHIVE=$(ARCHIVE) run-program run-header run-archive run-example run-text $(TESTS:%=run-%)
+
+run-program: target/bin/plan_queue
+	@sh tests/c/program.sh target/bin/plan_queue
+run-header:
+	@mkdir -p target/c
 	$(CC) $(CFLAGS) -Iinclude -c tests/c/header.c -o target/c/header.o
 	@if command -v $(CXX) > /dev/null; then $(CXX) $(CXXFLAGS) -Iinclude -x c++ -c tests/c/header.c -o target/c/header.o; \
 		else echo "no C++ compiler here: the header was not tried as C++"; fi
-	sh tests/c/archive.sh $(ARCHIVE)
-	sh tests/c/example.sh target/c/plan
-	python3 tools/queue_text.py --self-test
-	@$(MAKE) --no-print-directory -j 2 -O ARCHIVE=$(ARCHIVE) run-program $(TESTS:%=run-%)
-
-# The parts of c-test that run two at a time, once it has built what they need.
-run-program: target/bin/plan_queue
-	@sh tests/c/program.sh target/bin/plan_queue
-run-%:
+run-archive:
+	@sh tests/c/archive.sh $(ARCHIVE)
+run-example: target/c/plan
+	@sh tests/c/example.sh target/c/plan
+run-text:
+	@python3 tools/queue_text.py --self-test
+$(TESTS:%=run-%): run-%: target/c/%
 	@target/c/$*
 
 # Random tests with new seeds, for SECONDS seconds in all; `SEED=n` repeats a run.
