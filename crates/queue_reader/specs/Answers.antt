@@ -26,7 +26,7 @@ abbrev pub asPlaces : Found (ℕ × ℕ) → Places
 asPlaces (found w n) = Window (w .0) (w .1) n
 asPlaces (refused r) = Closed r
 
--- a refused head is the record of zeros
+-- a head that was read, and the position behind it
 abbrev pub headAs : ℕ → Queue → Head
 headAs n q = record { outcome = Next n; queue = q }
 
