@@ -26,13 +26,9 @@ abbrev pub asPlaces : Found (ℕ × ℕ) → Places
 asPlaces (found w n) = Window (w .0) (w .1) n
 asPlaces (refused r) = Closed r
 
--- a head that was read, and the position behind it
-abbrev pub headAs : ℕ → Queue → Head
-headAs n q = record { outcome = Next n; queue = q }
-
 -- a head and the position behind it, or the refusal with the record of zeros
 abbrev pub asHead : Found Queue → Head
-asHead (found q n) = headAs n q
+asHead (found q n) = record { outcome = Next n; queue = q }
 asHead (refused r) = record { outcome = Stopped r; queue = blank }
 
 -- what follows the gaps in a head: w_1 .. w_N, a_1 b_1 .. a_N b_N

@@ -20,13 +20,13 @@ ghost use Rattle.queue.specs.Record.{windowOk};
 ghost use Rattle.queue.specs.Reading.{window, placed, settings, tables, head, jobs, closed, asReading, readQueue};
 ghost use Rattle.queue_reader.specs.Answers.{asFront, asPlaces, asHead, limits, headEnding, readingEnding};
 
-// What reading them finds: the settings and the position behind them.
+// What reading the settings finds: they and the position behind them, or the refusal.
 pub enum Front {
     Known(Settings, usize),
     Refused(Reason),
 }
 
-// What reading the allowed places of one kind finds.
+// What reading the allowed places of one kind finds: they and the position behind them, or the refusal.
 pub enum Places {
     Window { first: u32, last: u32, next: usize },
     Refused(Reason),

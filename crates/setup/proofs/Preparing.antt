@@ -9,6 +9,7 @@ use lib.Dec.{leb}
 use lib.ListN.{length, getD, take, replicate}
 use borrow.Author.Tests.{leb-true, leb-false}
 use lib.Seq.{length-take-le, getD-take, ext-getD}
+use Rattle.fields.proofs.Arrays.{getD-zeros}
 use Rattle.queue.specs.declared.Queue.{Queue}
 use Rattle.queue.specs.Record.{Valid}
 use Rattle.sequencing.specs.Lists.{at}
@@ -21,11 +22,9 @@ use Rattle.problem.proofs.Sizes.{kind-few}
 use Rattle.setup.specs.Listed.{Listed}
 use Rattle.setup.specs.Prepared.{Prepared}
 
-pub zeros : (n x : ℕ) → at (replicate n 0) x ≡ 0
-zeros n zero = refl
-zeros zero (suc i) = refl
-zeros (suc n) (suc zero) = refl
-zeros (suc n) (suc (suc i)) = zeros n (suc i)
+pub at-zeros : (n x : ℕ) → at (replicate n 0) x ≡ 0
+at-zeros n zero = refl
+at-zeros n (suc i) = getD-zeros n i
 
 stride-past : (cs : List ℕ) (x : ℕ) → length cs < x → stride cs x ≡ 0
 unfolding stride

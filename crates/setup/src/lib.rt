@@ -12,9 +12,9 @@ ghost use Rattle.setup.specs.Prepared.{Prepared};
 
 // What is prepared once a call.
 pub struct Setup {
-    // K_1 .. K_N.
+    // K_1 .. K_N, then 0.
     pub counts: [u32; 5],
-    // The jobs of each kind by hand-in, sixty places a kind.
+    // The jobs of each kind by hand-in, sixty places a kind, then 0.
     pub jobs: [u32; 300],
     // What one job of each kind counts for in an entry number.
     pub strides: [usize; 5],

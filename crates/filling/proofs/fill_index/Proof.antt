@@ -5,10 +5,10 @@ use mathlib.Core.Path.{ap, _∙_}
 use borrow.Author.Tests.{eq-eqb}
 use Rattle.sequencing.specs.Counts.{found}
 use Rattle.sequencing.proofs.Sums.{sum-same}
+use Rattle.sequencing.specs.Entries.{stored}
 use Rattle.filling.specs.Staged.{Arrays}
 use Rattle.filling.proofs.Staging.{stage-entry}
 use borrow.Author.Needs.{needs}
-use Rattle.sequencing.specs.Entries.{stored}
 use Rattle.filling.proofs.fill_index.Statement.{statement}
 use Rattle.filling.proofs.fill_index.Tie as tie
 

@@ -2,8 +2,8 @@
 -- Assumes nothing.
 use Prim.Native.Nat.{_*_}
 use mathlib.Core.Path.{ap}
-use borrow.Author.Needs.{needs}
 use Rattle.problem.proofs.Sizes.{entries-fit}
+use borrow.Author.Needs.{needs}
 use Rattle.setup.proofs.needed_entries.Statement.{statement}
 use Rattle.setup.proofs.needed_entries.Tie as tie
 

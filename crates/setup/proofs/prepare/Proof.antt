@@ -1,7 +1,7 @@
 -- `setup::prepare` meets its contract: the jobs are listed, then the strides multiplied out.
 -- Assumes nothing.
 use mathlib.Core.Path.{refl, _∙_}
-use Rattle.setup.proofs.Preparing.{zeros, counts-few, prepared}
+use Rattle.setup.proofs.Preparing.{at-zeros, counts-few, prepared}
 use borrow.Author.Needs.{needs}
 use Rattle.setup.proofs.prepare.Statement.{statement}
 use Rattle.setup.proofs.prepare.Tie as tie
@@ -16,7 +16,7 @@ returns : tie.Need-returns
 returns c =
     let call = c .before .before .before .before .before .before .before .list-jobs in
     let strides = c .before .set-strides in
-    prepared _ (c .before .before .before .before .before .before .before .before .before .before .pre) _ _ (call .ensures) (call .kept .1 .0) _ _ (call .kept .1 .1 .0) (strides .kept .1 .1 .0) (strides .ensures .0) (strides .ensures .1 .0) (λ x u. strides .ensures .1 .1 x u ∙ zeros 5 x)
+    prepared _ (c .before .before .before .before .before .before .before .before .before .before .pre) _ _ (call .ensures) (call .kept .1 .0) _ _ (call .kept .1 .1 .0) (strides .kept .1 .1 .0) (strides .ensures .0) (strides .ensures .1 .0) (λ x u. strides .ensures .1 .1 x u ∙ at-zeros 5 x)
 
 pub prepare-spec : {M : Type 1} → statement M
 prepare-spec =

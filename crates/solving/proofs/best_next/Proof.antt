@@ -2,9 +2,9 @@
 -- Assumes nothing.
 use mathlib.Core.Path.{sym, ap, _∙_}
 use borrow.Author.Tests.{eq-eqb}
+use Rattle.sequencing.specs.Entries.{stored}
 use Rattle.solving.proofs.Looking.{Look, may-load, may-look, weighs, few-left, few-pupils, least-by-table, taken-by-table}
 use borrow.Author.Needs.{needs}
-use Rattle.sequencing.specs.Entries.{stored}
 use Rattle.solving.proofs.best_next.Statement.{statement}
 use Rattle.solving.proofs.best_next.Tie as tie
 

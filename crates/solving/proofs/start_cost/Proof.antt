@@ -1,10 +1,10 @@
 -- `solving::start_cost` meets its contract: the same rule with the start's row and all jobs left.
 -- Assumes nothing.
 use mathlib.Core.Path.{sym, ap, _∙_}
+use Rattle.sequencing.specs.Entries.{stored}
 use Rattle.problem.proofs.Queues.{plan-no-jobs, plan-some-jobs}
 use Rattle.solving.proofs.Start.{some-block, last-in, last-is, start-here}
 use borrow.Author.Needs.{needs}
-use Rattle.sequencing.specs.Entries.{stored}
 use Rattle.solving.proofs.start_cost.Statement.{statement}
 use Rattle.solving.proofs.start_cost.Tie as tie
 

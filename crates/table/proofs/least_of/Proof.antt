@@ -4,11 +4,11 @@ use Prim.Native.Nat.{suc, _+_, _-_}
 use mathlib.Core.Path.{_≡_}
 use native.Mathlib.Numerals.{add-one}
 use native.Mathlib.Omega.{arith}
+use Rattle.sequencing.specs.Entries.{stored}
 use Rattle.table.specs.Entries.{candidate}
 use Rattle.table.proofs.Candidates.{candidate-fits, small-next}
 use Rattle.table.proofs.Lowest.{Lowest, lowest-none, lowest-more, lowest-done}
 use borrow.Author.Needs.{needs}
-use Rattle.sequencing.specs.Entries.{stored}
 use Rattle.table.proofs.least_of.Statement.{statement}
 use Rattle.table.proofs.least_of.Tie as tie
 
