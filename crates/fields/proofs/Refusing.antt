@@ -8,10 +8,9 @@ use lib.Dec.{ltb, eqb}
 use lib.ListN.{drop}
 use Rattle.refusal.specs.declared.Reason.{Reason}
 use Rattle.refusal.specs.declared.Reason.the-variants.{Ends, Malformed}
-use Rattle.number.specs.Readers.{Found, found, refused, Reader, andThen, times}
+use Rattle.number.specs.Readers.{Found, found, refused, andThen}
 use Rattle.number.specs.Numbers.{above, last, groupsAt, number}
 use Rattle.number.proofs.Steps.{not-refused}
-use Rattle.fields.specs.Fields.{field}
 
 -- a step that refuses gives one of the refusals P
 abbrev pub Gives : (Reason → Type 0) → {A : Type 0} → Found A → Type 0
@@ -31,12 +30,6 @@ module _ (P : Reason → Type 0) where
   pub gives-then : {A B : Type 0} (f : Found A) (next : A → ℕ → Found B) → Gives P f → ((a : A) (n : ℕ) → Gives P (next a n)) → Gives P (andThen f next)
   gives-then (found a n) next h k = k a n
   gives-then (refused q) next h k = gives-why q (h q refl)
-
-  pub gives-times : {A : Type 0} (one : Reader A) (s : List ℕ) → ((at : ℕ) → Gives P (one s at)) → (n at : ℕ) → Gives P (times n one s at)
-  unfolding times
-  gives-times one s h zero at = gives-found [] at
-  gives-times one s h (suc n) at =
-      gives-then (one s at) _ (h at) (λ a i. gives-then (times n one s i) _ (gives-times one s h n i) (λ more k. gives-found (a ∷ more) k))
 
   module _ (ends : P Ends) (malformed : P Malformed) where
     gives-last : (first : Bool) (b n : ℕ) → Gives P (last first b n)
@@ -63,6 +56,3 @@ module _ (P : Reason → Type 0) where
 
     pub gives-number : (g : ℕ) (s : List ℕ) (at : ℕ) → Gives P (number g s at)
     gives-number g s at = gives-groups true g at (drop at s)
-
-    pub gives-field : (ok : ℕ → Bool) (why : Reason) → P why → (s : List ℕ) (at : ℕ) → Gives P (field 3 ok why s at)
-    gives-field ok why h s at = gives-then (number 3 s at) _ (gives-number 3 s at) (λ v n. gives-judged (ok v) v n why h)

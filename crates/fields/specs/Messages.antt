@@ -25,9 +25,15 @@ opening a b s at = cond (opens a b s) (found tt 2) (refused Opening)
 abbrev pub end : Reader (Unit {0})
 end s at = cond (eqb at (length s)) (found tt at) (refused Trailing)
 
--- one check of a record: its refusal where it fails, else the checks after it
-abbrev pub check : Bool → Reason → Verdict → Verdict
-check ok why more = cond ok more (Refused why)
+-- one check of a record: its refusal where it fails
+abbrev pub check : Bool → Reason → Verdict
+check ok why = cond ok Accepted (Refused why)
+
+-- one part judged before another: the first that refuses
+infixr 20 _before_
+abbrev pub _before_ : Verdict → Verdict → Verdict
+_before_ Accepted later = later
+_before_ (Refused r) later = Refused r
 
 -- writers first judge the record, then give 15 for a buffer under so many bytes
 abbrev pub writeAnswer : ℕ → Verdict → ℕ → List ℕ → Written

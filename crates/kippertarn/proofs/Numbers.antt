@@ -10,7 +10,7 @@ use Rattle.refusal.specs.declared.Verdict.the-variants.{Accepted, Refused}
 use Rattle.refusal.specs.Reasons.{needed}
 use Rattle.refusal.specs.Answers.{verdictNumber}
 use Rattle.queue.specs.Reading.{readQueue}
-use Rattle.queue_laws.proofs.Refusals.{queue-refusal, message-needed}
+use Rattle.queue_laws.proofs.Theorems.{queue-refusal, message-needed}
 use Rattle.plan.specs.Reading.{readPlan}
 use Rattle.plan.proofs.Refusals.{plan-refusal, plan-refusal-needed}
 use Rattle.planning.proofs.Answers.{reason-range}

@@ -19,7 +19,7 @@ use Rattle.queue.specs.Record.{Valid}
 use Rattle.plan.specs.declared.Plan.{Plan}
 use Rattle.plan.specs.Record.{Valid as PlanValid}
 use Rattle.plan.specs.Writing.{message, writePlan, writtenPlan}
-use Rattle.plan.proofs.Judging.{valid-judged}
+use Rattle.plan.proofs.Theorems.{valid-judged}
 use Rattle.sequencing.specs.Problem.{Problem}
 use Rattle.sequencing.specs.Recursion.{planCost, planOrder}
 use Rattle.sequencing.specs.Counts.{feasibleStates}

@@ -1,24 +1,19 @@
--- A record is judged well exactly when it is valid.
+-- 01's bounds on a record, by places and by the list of its jobs.
 -- Assumes nothing.
 use Prim.Native.Nat.{ℕ, _+_, _-_, _^_, _<_, _≤_}
-use mathlib.Core.Path.{_≡_, refl, sym, ap, _∙_}
-use mathlib.Core.Bool.{Bool, true, false}
+use mathlib.Core.Path.{_≡_, sym, ap, _∙_}
+use mathlib.Core.Bool.{true, false}
 use mathlib.Core.List.{List, []}
 use native.Mathlib.Omega.{arith}
 use lib.ListN.{length, getD, take}
 use lib.Seq.{getD-take, length-take-le}
 use borrow.Author.Tests.{not-true}
-use Rattle.refusal.specs.declared.Reason.{Reason}
-use Rattle.refusal.specs.declared.Reason.the-variants.{Malformed, Goal, Jobs, Job}
-use Rattle.refusal.specs.declared.Verdict.{Verdict}
-use Rattle.refusal.specs.declared.Verdict.the-variants.{Accepted}
 use Rattle.fields.specs.Fields.{within}
-use Rattle.fields.specs.Messages.{check}
 use Rattle.fields.proofs.Judged.{and-true, within-true, true-within}
 use Rattle.fields.specs.Lists.{standsIn}
 use Rattle.plan.specs.declared.Plan.{Plan}
 use Rattle.plan.specs.Record.{fresh, job, jobList, Valid}
-use Rattle.plan.specs.Writing.{allFresh, judge}
+use Rattle.plan.specs.Writing.{allFresh}
 use Rattle.plan.proofs.Fresh.{stands-nowhere, nowhere-stands, fresh-places, places-fresh}
 use Rattle.plan.proofs.JobLists.{job-listed, job-list-length}
 
@@ -75,35 +70,3 @@ module _ (p : Plan) where
             (rw (length-take-le (later - 1) js (omega arith)) (omega arith))
             (getD-take (later - 1) js (place - 1) 0 (omega arith) ∙ job-listed p place l (omega arith) ∙ q ∙ sym (job-listed p later (omega arith) u));
       }
-
-passed-check : (ok : Bool) (why : Reason) (more : Verdict) → check ok why more ≡ Accepted → (ok ≡ true) × (more ≡ Accepted)
-passed-check true why more e = (refl, e)
-passed-check false why more e = let z : _≡_ {A = ℕ} 0 1 = cc in absurd (omega arith)
-
-pub judged-valid : (p : Plan) → judge p ≡ Accepted → Valid p
-unfolding judge
-judged-valid p e =
-    let (g, e1) = passed-check (within 1 2 (p .goal)) Goal _ e in
-    let (c, e2) = passed-check (within 0 (2 ^ 42 - 1) (p .cost)) Malformed _ e1 in
-    let (s, e3) = passed-check (within 0 (2 ^ 42 - 1) (p .«feasible_states»)) Malformed _ e2 in
-    let (j, e4) = passed-check (within 0 60 (p .jobs)) Jobs _ e3 in
-    let (o, _) = passed-check (allFresh (p .jobs) [] (jobList p)) Job _ e4 in
-    bounded-valid p (record {
-      goals = within-true 1 2 (p .goal) g;
-      costs = omega (arith, within-true 0 (2 ^ 42 - 1) (p .cost) c);
-      counts = omega (arith, within-true 0 (2 ^ 42 - 1) (p .«feasible_states») s);
-      few = within-true 0 60 (p .jobs) j .1;
-      each = o;
-    })
-
-pub valid-judged : (p : Plan) → Valid p → judge p ≡ Accepted
-unfolding judge
-valid-judged p v =
-    let b = valid-bounded p v in
-    rw (
-      true-within 1 2 (p .goal) (b .goals .0) (b .goals .1),
-      true-within 0 (2 ^ 42 - 1) (p .cost) (omega arith) (omega (arith, b .costs)),
-      true-within 0 (2 ^ 42 - 1) (p .«feasible_states») (omega arith) (omega (arith, b .counts)),
-      true-within 0 60 (p .jobs) (omega arith) (b .few),
-      b .each,
-    )

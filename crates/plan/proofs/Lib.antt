@@ -1,6 +1,6 @@
 pub mod Fresh
 pub mod JobLists
 pub mod Judging
-pub mod RoundTrip
-pub mod Theorems
+pub mod Format
 pub mod Refusals
+pub mod Theorems

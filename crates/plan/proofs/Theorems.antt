@@ -1,12 +1,12 @@
 -- What reading and writing plans promise together.
 -- Assumes nothing.
 use Prim.Native.Nat.{ℕ, _≤_}
-use mathlib.Core.Path.{_≡_, refl, sym, ap, _∙_, subst}
+use mathlib.Core.Path.{_≡_, refl, sym, ap, _∙_}
 use mathlib.Core.Logic.{_↔_, inl, inr}
 use mathlib.Core.List.{List, _++_}
 use native.Mathlib.Omega.{arith}
 use native.Mathlib.Nat.{zero-add}
-use lib.ListN.{length, drop, length-append}
+use lib.ListN.{length, take, drop}
 use lib.Seq.{sets-eq}
 use borrow.Author.Tests.{le-leb}
 use Rattle.refusal.specs.declared.Reason.{Reason}
@@ -14,25 +14,21 @@ use Rattle.refusal.specs.declared.Verdict.{Verdict}
 use Rattle.refusal.specs.declared.Verdict.the-variants.{Accepted, Refused}
 use Rattle.refusal.specs.declared.Written.the-variants.{Refused as NotWritten}
 use Rattle.number.specs.Readers.{Found, found, refused}
-use Rattle.number.specs.Numbers.{encode}
-use Rattle.number.proofs.Encoding.{length-encode}
 use Rattle.number.proofs.Steps.{below-or-not}
 use Rattle.fields.proofs.Judged.{high-out}
-use Rattle.fields.proofs.Codecs.{Bytes, flat-length}
-use Rattle.fields.proofs.Tables.{all-tabulate}
+use Rattle.fields.proofs.Codecs.{Bytes}
 use Rattle.plan.specs.declared.Plan.{Plan}
 use Rattle.plan.specs.declared.Reading.{Reading}
-use Rattle.plan.specs.Record.{job, jobList, Valid}
-use Rattle.plan.specs.Reading.{plan, planOf, cleared, asReading, readPlan}
+use Rattle.plan.specs.Record.{Valid}
+use Rattle.plan.specs.Reading.{plan, cleared, asReading, readPlan}
 use Rattle.plan.specs.Writing.{message, judge, writePlan, writtenPlan}
-use Rattle.plan.proofs.JobLists.{held, job-list-length, cleared-list, cleared-message}
-use Rattle.plan.proofs.Judging.{valid-bounded, bounded-valid, judged-valid, valid-judged}
-use Rattle.plan.proofs.RoundTrip.{plan-read, plan-written}
+use Rattle.plan.proofs.Format.{Fits, plan-message}
+use Rattle.plan.proofs.JobLists.{cleared-list, cleared-message}
 
 -- a valid record, written and read, is the same record up to T, and 0 past it
 pub written-read : (p : Plan) → Valid p → readPlan (message p) ≡ record { verdict = Accepted; plan = cleared p }
-unfolding readPlan message
-written-read p v = ap asReading (plan-written (p .goal) (p .cost) (p .«feasible_states») (p .jobs) (jobList p) (job-list-length p) (valid-bounded p v))
+unfolding readPlan
+written-read p v = ap asReading (plan-message .written p v)
 
 accepted-found : (f : Found Plan) → asReading f .verdict ≡ Accepted → (n : ℕ) × (f ≡ found (asReading f .plan) n)
 accepted-found (found p n) e = (n, refl)
@@ -40,13 +36,23 @@ accepted-found (refused r) e = let z : _≡_ {A = ℕ} 0 1 = cc in absurd (omega
 
 -- accepted bytes, read and written, are the same bytes, and what was read is valid
 pub read-written : (s : List ℕ) → Bytes s → readPlan s .verdict ≡ Accepted → (message (readPlan s .plan) ≡ s) × Valid (readPlan s .plan)
-unfolding readPlan message
+unfolding readPlan
 read-written s b e =
     let (n, f) = accepted-found (plan s 0) e in
-    let r = plan-read s (asReading (plan s 0) .plan) n b f in
-    let q : Plan = planOf (r .goal) (r .cost) (r .states) (r .t) (r .js) in
-    let jobs = held (r .goal) (r .cost) (r .states) (r .t) (r .js) (r .size) (r .bounds .few) in
-    subst (λ (p : Plan). (message p ≡ s) × Valid p) (r .is) (rw jobs (sym (r .bytes)), bounded-valid q (rw jobs (r .bounds)))
+    let r = plan-message .back s b (asReading (plan s 0) .plan) n f in
+    (r .0, r .1)
+
+-- the verdict accepts exactly what is valid
+pub judged-valid : (p : Plan) → judge p ≡ Accepted → Valid p
+judged-valid p e = plan-message .accepts p .0 e
+
+pub valid-judged : (p : Plan) → Valid p → judge p ≡ Accepted
+valid-judged p v = plan-message .accepts p .1 v
+
+-- a record that fits a message: the writer refuses it with the refusal that the reader would give its message
+pub refused-alike : (p : Plan) (r : Reason) → Fits p → judge p ≡ Refused r → readPlan (message p) .verdict ≡ Refused r
+unfolding readPlan
+refused-alike p r k j = ap (λ (f : Found Plan). asReading f .verdict) (plan-message .refuses p r k j)
 
 -- what stands past T makes no difference to the verdict on a record, to the writer's answer, and to the buffer
 pub cleared-judge : (p : Plan) → judge (cleared p) ≡ judge p
@@ -76,22 +82,12 @@ accepted-exactly s b = (
 
 -- no accepted plan is longer than 77 bytes
 pub message-length : (p : Plan) → Valid p → length (message p) ≤ 77
-unfolding message
-message-length p v =
-    let jobs = flat-length encode 1 (jobList p) (all-tabulate (job p) (λ j. length (encode j) ≤ 1) 1 (p .jobs) (λ k l u.
-    length-encode 1 (job p k) (omega arith) (omega (arith, v .jobs, v .in-range k l (omega arith))))) in
-    simp length-append
-    (omega (
-      arith,
-      jobs,
-      v .jobs,
-      job-list-length p,
-      length-encode 1 1 (omega arith) (omega arith),
-      length-encode 1 (p .goal) (omega arith) (omega (arith, v .goal)),
-      length-encode 6 (p .cost) (omega arith) (v .cost),
-      length-encode 6 (p .«feasible_states») (omega arith) (v .states),
-      length-encode 1 (p .jobs) (omega arith) (omega (arith, v .jobs)),
-    ))
+message-length p v = plan-message .short p v
+
+-- the first 79 bytes decide the answer
+pub first-79 : (s : List ℕ) → Bytes s → readPlan (take 79 s) ≡ readPlan s
+unfolding readPlan
+first-79 s b = ap asReading (plan-message .same s b)
 
 -- ---- the buffer
 

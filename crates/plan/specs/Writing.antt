@@ -5,11 +5,10 @@ use mathlib.Core.List.{List, [], _∷_, _++_}
 use lib.ListN.{length}
 use Rattle.refusal.specs.declared.Reason.the-variants.{Malformed, Goal, Jobs, Job}
 use Rattle.refusal.specs.declared.Verdict.{Verdict}
-use Rattle.refusal.specs.declared.Verdict.the-variants.{Accepted}
 use Rattle.refusal.specs.declared.Written.{Written}
 use Rattle.number.specs.Numbers.{encode}
 use Rattle.fields.specs.Fields.{within, encodeAll}
-use Rattle.fields.specs.Messages.{check, writeAnswer, bufferAfter}
+use Rattle.fields.specs.Messages.{check, _before_, writeAnswer, bufferAfter}
 use Rattle.plan.specs.declared.Plan.{Plan}
 use Rattle.plan.specs.Record.{fresh, jobList}
 
@@ -28,11 +27,10 @@ allFresh t earlier (j ∷ js) = fresh t earlier j && allFresh t (earlier ++ (j �
 unfoldable pub judge : Plan → Verdict
 judge p =
     check (within 1 2 (p .goal)) Goal
-    (check (within 0 (2 ^ 42 - 1) (p .cost)) Malformed
-    (check (within 0 (2 ^ 42 - 1) (p .«feasible_states»)) Malformed
-    (check (within 0 60 (p .jobs)) Jobs
-    (check (allFresh (p .jobs) [] (jobList p)) Job
-    Accepted))))
+    before check (within 0 (2 ^ 42 - 1) (p .cost)) Malformed
+    before check (within 0 (2 ^ 42 - 1) (p .«feasible_states»)) Malformed
+    before check (within 0 60 (p .jobs)) Jobs
+    before check (allFresh (p .jobs) [] (jobList p)) Job
 
 -- a buffer of at least 77 bytes is asked
 unfoldable pub writePlan : Plan → ℕ → Written

@@ -47,7 +47,7 @@ module _ (p : Plan) where
 
         module _ (j : p .jobs ≤ 60) (room : p .jobs ≤ length (p .order)) where
           -- the last check, whichever way it goes
-          pub judge-order : (b : Bool) → allFresh (p .jobs) [] (take (p .jobs) (p .order)) ≡ b → check b Job Accepted ≡ judge p
+          pub judge-order : (b : Bool) → allFresh (p .jobs) [] (take (p .jobs) (p .order)) ≡ b → check b Job ≡ judge p
           unfolding judge
           judge-order b h =
               rw (

@@ -15,7 +15,7 @@ use Rattle.fields.proofs.Codecs.{Bytes}
 use Rattle.queue.specs.declared.Queue.{Queue}
 use Rattle.queue.specs.Record.{Valid}
 use Rattle.queue.specs.Reading.{readQueue}
-use Rattle.queue_laws.proofs.Records.{accepted-valid}
+use Rattle.queue_laws.proofs.Theorems.{accepted-valid}
 use Rattle.plan.specs.Writing.{message}
 use Rattle.plan.proofs.Theorems.{message-length}
 use Rattle.sequencing.specs.Problem.{Problem}

@@ -19,8 +19,8 @@ use Rattle.refusal.specs.Reasons.{reasonNumber}
 use Rattle.fields.proofs.Codecs.{Bytes}
 use Rattle.queue.specs.declared.Queue.{Queue}
 use Rattle.queue.specs.Reading.{readQueue}
-use Rattle.queue_laws.proofs.Records.{accepted-valid}
-use Rattle.queue_laws.proofs.Refusals.{queue-refusal}
+use Rattle.queue_laws.proofs.Theorems.{accepted-valid}
+use Rattle.queue_laws.proofs.Theorems.{queue-refusal}
 use Rattle.sequencing.specs.Orders.{IsOrder, Permitted}
 use Rattle.sequencing.specs.Recursion.{planCost}
 use Rattle.sequencing.specs.Entries.{entries}

@@ -1,5 +1,5 @@
 -- What a queue record holds, in document 01's terms, and the bounds on it.
-use Prim.Native.Nat.{ℕ, _+_, _-_, _*_, _≤_}
+use Prim.Native.Nat.{ℕ, _+_, _-_, _*_, _^_, _<_, _≤_}
 use mathlib.Core.Bool.{Bool, _&&_}
 use mathlib.Core.List.{List}
 use lib.Dec.{leb}
@@ -59,3 +59,15 @@ module _ (q : Queue) where
     pub places : (j : ℕ) → 1 ≤ j → j ≤ q .kinds → (1 ≤ firstPlace j) × (firstPlace j ≤ lastPlace j) × (lastPlace j ≤ 60)
     pub jobs : q .jobs ≤ 60
     pub kinds-of-jobs : (i : ℕ) → 1 ≤ i → i ≤ q .jobs → (1 ≤ kind i) × (kind i ≤ q .kinds)
+
+  -- a record whose numbers have at most three groups each, up to N and T
+  pub record Fits : Type 0 where
+    pub kinds : q .kinds < 2 ^ 21
+    pub goal : q .goal < 2 ^ 21
+    pub shift : q .«max_shift» < 2 ^ 21
+    pub start : q .start < 2 ^ 21
+    pub gaps : (i j : ℕ) → i ≤ q .kinds → 1 ≤ j → j ≤ q .kinds → gap i j < 2 ^ 21
+    pub weights : (j : ℕ) → 1 ≤ j → j ≤ q .kinds → weight j < 2 ^ 21
+    pub places : (j : ℕ) → 1 ≤ j → j ≤ q .kinds → (firstPlace j < 2 ^ 21) × (lastPlace j < 2 ^ 21)
+    pub jobs : q .jobs < 2 ^ 21
+    pub kinds-of-jobs : (i : ℕ) → 1 ≤ i → i ≤ q .jobs → kind i < 2 ^ 21

@@ -5,10 +5,9 @@ use lib.ListN.{length}
 use Rattle.refusal.specs.declared.Reason.the-variants.{Kinds, Goal, Shift, Start, Gap, Weight, Window, Jobs, Kind}
 use Rattle.number.specs.Numbers.{encode}
 use Rattle.fields.specs.Fields.{within, all, encodeAll}
-use Rattle.fields.specs.Messages.{check, writeAnswer, bufferAfter}
+use Rattle.fields.specs.Messages.{check, _before_, writeAnswer, bufferAfter}
 use Rattle.queue.specs.declared.Queue.{Queue}
 use Rattle.refusal.specs.declared.Verdict.{Verdict}
-use Rattle.refusal.specs.declared.Verdict.the-variants.{Accepted}
 use Rattle.refusal.specs.declared.Written.{Written}
 use Rattle.queue.specs.Record.{rows, weightList, windows, kindList, windowOk}
 
@@ -32,37 +31,32 @@ jobBytes q = encode (q .jobs) ++ encodeAll (kindList q)
 unfoldable pub message : Queue → List ℕ
 message q = (0x51 ∷ 0x53 ∷ []) ++ encode 1 ++ headBytes q ++ jobBytes q
 
--- 5 to 8, then more
-unfoldable pub judgeSettings : Queue → Verdict → Verdict
-judgeSettings q more =
+-- 5 to 8
+unfoldable pub judgeSettings : Queue → Verdict
+judgeSettings q =
     check (within 1 5 (q .kinds)) Kinds
-    (check (within 1 2 (q .goal)) Goal
-    (check (within 0 60 (q .«max_shift»)) Shift
-    (check (within 0 (q .kinds) (q .start)) Start
-    more)))
+    before check (within 1 2 (q .goal)) Goal
+    before check (within 0 60 (q .«max_shift»)) Shift
+    before check (within 0 (q .kinds) (q .start)) Start
 
--- 9 to 11, then more
-unfoldable pub judgeTables : Queue → Verdict → Verdict
-judgeTables q more =
+-- 9 to 11
+unfoldable pub judgeTables : Queue → Verdict
+judgeTables q =
     check (all (all (within 0 65535)) (rows q)) Gap
-    (check (all (within 0 1000) (weightList q)) Weight
-    (check (all windowOk (windows q)) Window
-    more))
+    before check (all (within 0 1000) (weightList q)) Weight
+    before check (all windowOk (windows q)) Window
 
--- from N to the allowed places, then more
-unfoldable pub judgeHead : Queue → Verdict → Verdict
-judgeHead q more = judgeSettings q (judgeTables q more)
+-- from N to the allowed places
+unfoldable pub judgeHead : Queue → Verdict
+judgeHead q = judgeSettings q before judgeTables q
 
 -- 12 and 13
 unfoldable pub judgeJobs : Queue → Verdict
-judgeJobs q =
-    check (within 0 60 (q .jobs)) Jobs
-    (check (all (within 1 (q .kinds)) (kindList q)) Kind
-    Accepted)
+judgeJobs q = check (within 0 60 (q .jobs)) Jobs before check (all (within 1 (q .kinds)) (kindList q)) Kind
 
--- the record judged in message order, 5 to 13
+-- the record judged in message order, 5 to 13: the first that refuses
 unfoldable pub judge : Queue → Verdict
-judge q = judgeHead q (judgeJobs q)
+judge q = judgeHead q before judgeJobs q
 
 -- a buffer of at least 178 bytes is asked
 unfoldable pub writeQueue : Queue → ℕ → Written

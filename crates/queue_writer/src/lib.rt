@@ -87,7 +87,7 @@ fn judge_windows(first: &[u32], last: &[u32], kinds: usize) -> bool
 
 // Refusals 5 to 8.
 fn judge_settings(queue: Queue) -> Verdict
-    ensures { λ r. ⌜ r ≡ judgeSettings queue Verdict.Accepted ⌝ }
+    ensures { λ r. ⌜ r ≡ judgeSettings queue ⌝ }
 {
     if !is_within(queue.kinds, 1, 5) {
         return Verdict::Refused(Reason::Kinds);
@@ -107,7 +107,7 @@ fn judge_settings(queue: Queue) -> Verdict
 // Refusals 9 to 11.
 fn judge_tables(queue: Queue) -> Verdict
     requires { ⌜ queue .kinds ≤ 5 ⌝ }
-    ensures { λ r. ⌜ r ≡ judgeTables queue Verdict.Accepted ⌝ }
+    ensures { λ r. ⌜ r ≡ judgeTables queue ⌝ }
 {
     let kinds = queue.kinds as usize;
     let gaps = queue.gaps;
@@ -128,7 +128,7 @@ fn judge_tables(queue: Queue) -> Verdict
 
 // From the number of kinds to the allowed places.
 fn judge_head(queue: Queue) -> Verdict
-    ensures { λ r. ⌜ r ≡ judgeHead queue Verdict.Accepted ⌝ }
+    ensures { λ r. ⌜ r ≡ judgeHead queue ⌝ }
 {
     match judge_settings(queue) {
         Verdict::Refused(why) => Verdict::Refused(why),

@@ -1,30 +1,22 @@
--- `queue_writer::judge_head` meets its contract: one part is judged after the other.
+-- `queue_writer::judge_head` meets its contract: one part is judged before the other.
 -- Assumes nothing.
-use mathlib.Core.Path.{sym, ap, _∙_}
-use Rattle.refusal.specs.declared.Verdict.{Verdict}
-use Rattle.refusal.specs.declared.Verdict.the-variants.{Accepted}
-use Rattle.queue.specs.Writing.{judgeTables, judgeHead}
-use Rattle.queue_laws.proofs.Judging.{after, few-kinds, settings-after}
+use mathlib.Core.Path.{sym, _∙_}
+use Rattle.queue.specs.Writing.{judgeHead}
+use Rattle.queue_laws.proofs.Queues.{few-kinds}
 use borrow.Author.Needs.{needs}
 use Rattle.queue_writer.proofs.judge_head.Statement.{statement}
 use Rattle.queue_writer.proofs.judge_head.Tie as tie
 
 judge-tables-requires : tie.Need-judge-tables-requires
-judge-tables-requires c κs = few-kinds (c .before .before .before .args .queue) Accepted (sym (c .before .before .judge-settings .ensures) ∙ c .enum-told .given .1)
+judge-tables-requires c κs = few-kinds (c .before .before .before .args .queue) (sym (c .before .before .judge-settings .ensures) ∙ c .enum-told .given .1)
 
 returns : tie.Need-returns
 unfolding judgeHead
-returns c =
-    let q = c .before .before .before .before .args .queue in
-    let more = judgeTables q Accepted in
-    sym (settings-after q more ∙ ap (λ (v : Verdict). after v more) (sym (c .before .before .before .judge-settings .ensures) ∙ c .before .why .given .1))
+returns c = rw (sym (c .before .before .before .judge-settings .ensures) ∙ c .before .why .given .1)
 
 returns-2 : tie.Need-returns-2
 unfolding judgeHead
-returns-2 c =
-    let q = c .before .before .before .before .args .queue in
-    let more = judgeTables q Accepted in
-    c .judge-tables .ensures ∙ sym (settings-after q more ∙ ap (λ (v : Verdict). after v more) (sym (c .before .before .before .judge-settings .ensures) ∙ c .before .enum-told .given .1))
+returns-2 c = rw (sym (c .before .before .before .judge-settings .ensures) ∙ c .before .enum-told .given .1) (c .judge-tables .ensures)
 
 pub judge-head-spec : {M : Type 1} → statement M
 judge-head-spec =

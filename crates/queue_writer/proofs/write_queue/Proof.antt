@@ -2,8 +2,8 @@
 -- Assumes nothing.
 use mathlib.Core.Path.{sym, _∙_}
 use native.Mathlib.Omega.{arith}
-use Rattle.queue_laws.proofs.Judging.{judged-valid}
-use Rattle.queue_laws.proofs.Lengths.{message-length}
+use Rattle.queue_laws.proofs.Theorems.{judged-valid}
+use Rattle.queue_laws.proofs.Theorems.{message-length}
 use Rattle.queue_writer.proofs.Ways.{record-refused, buffer-short, message-written}
 use borrow.Author.Needs.{needs}
 use Rattle.queue_writer.proofs.write_queue.Statement.{statement}

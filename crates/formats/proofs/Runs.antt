@@ -1,0 +1,223 @@
+-- Runs: a part so many times, where each time may depend on what the earlier ones found.
+-- Assumes nothing.
+use Prim.Native.Nat.{ℕ, zero, suc, _+_, _-_, _*_, _^_, _<_, _≤_}
+use mathlib.Core.Path.{_≡_, refl, sym, ap, _∙_, subst₂}
+use mathlib.Core.Bool.{Bool}
+use mathlib.Core.Logic.{_↔_}
+use mathlib.Core.List.{List, [], _∷_, _++_, flatMap, append-assoc}
+use native.Mathlib.Omega.{arith}
+use native.Mathlib.Nat.{suc-mul, mul-le-mul}
+use lib.ListN.{length, take, drop, length-append}
+use Rattle.refusal.specs.declared.Reason.{Reason}
+use Rattle.refusal.specs.declared.Verdict.{Verdict}
+use Rattle.refusal.specs.declared.Verdict.the-variants.{Accepted, Refused}
+use Rattle.number.specs.Readers.{found, refused, Reader, andThen, times}
+use Rattle.number.proofs.Steps.{went-on, found-value, found-next}
+use Rattle.fields.proofs.Codecs.{Bytes, Stand, All, stand-none, stand-append, past}
+use Rattle.fields.proofs.Local.{and-same}
+use Rattle.fields.proofs.Refusing.{Gives, gives-found, gives-then}
+use Rattle.fields.specs.Fields.{within, all}
+use Rattle.fields.specs.Messages.{check, _before_}
+use Rattle.formats.specs.Verdicts.{inTurn, every}
+use Rattle.formats.specs.Steps.{inOrder}
+use Rattle.formats.proofs.Verdicts.{not-accepted, before-accepts, every-in-turn, every-judged, every-ext}
+use Rattle.formats.proofs.Formats.{Arises, Format, ends}
+use Rattle.formats.proofs.Telling.{retold, rejudged}
+use Rattle.formats.proofs.Numbers.{bounded}
+
+-- of numbers any value is sized
+pub all-any : {A : Type 0} (xs : List A) → All (λ a. Unit {0}) xs
+all-any [] = tt
+all-any (a ∷ more) = (tt, all-any more)
+
+-- each of a run, by what the earlier ones left
+abbrev pub InTurn : {S A : Type 0} → (S → A → S) → (S → A → Type 0) → S → List A → Type 0
+InTurn step P state [] = Unit
+InTurn step P state (a ∷ more) = P state a × InTurn step P (step state a) more
+
+module _ {S A Given : Type 0} {wide far : ℕ} {whys : List Reason} (one : S → Format A Given wide far whys) (step : S → A → S) where
+  abbrev pub runBytes : S → List A → List ℕ
+  runBytes state [] = []
+  runBytes state (a ∷ more) = one state .write a ++ runBytes (step state a) more
+
+  abbrev pub RunOk : S → List A → Type 0
+  RunOk = InTurn step (λ state. one state .Ok)
+
+  abbrev pub RunSized : S → List A → Type 0
+  RunSized = InTurn step (λ state. one state .Sized)
+
+  abbrev pub RunSmall : S → List A → Type 0
+  RunSmall = InTurn step (λ state. one state .Small)
+
+  -- where the state makes no difference to what is written
+  pub run-flat : (write : A → List ℕ) → ((state : S) (a : A) → one state .write a ≡ write a) → (state : S) (xs : List A) → flatMap write xs ≡ runBytes state xs
+  unfolding flatMap
+  run-flat write h state [] = refl
+  run-flat write h state (a ∷ more) = rw (h state a) (ap (λ (l : List ℕ). write a ++ l) (run-flat write h (step state a) more))
+
+  abbrev pub run : ℕ → S → Reader (List A)
+  run = inOrder (λ state. one state .read) step
+
+  module _ (z : Given) where
+    pub run-reads : (n : ℕ) (state : S) (s : List ℕ) (at : ℕ) (xs : List A) (end : ℕ) → Bytes s → run n state s at ≡ found xs end
+        → Stand s at (runBytes state xs) end × ((length xs ≡ n) × RunOk state xs)
+    unfolding inOrder
+    run-reads zero state s at xs end y e =
+        subst₂ (λ (l : List A) (m : ℕ). Stand s at (runBytes state l) m × ((length l ≡ 0) × RunOk state l)) (found-value [] xs at end e) (found-next [] xs at end e)
+        (stand-none s at, (refl, tt))
+    run-reads (suc n) state s at xs end y e =
+        let (a, i, f, p) = went-on (one state .read s at) (λ a m. andThen (run n (step state a) s m) (λ more l. found (a ∷ more) l)) xs end e in
+        let (more, l, g, q) = went-on (run n (step state a) s i) (λ more l. found (a ∷ more) l) xs end p in
+        let x = one state .reads z s at a i y f in
+        let u = run-reads n (step state a) s i more l y g in
+        subst₂ (λ (k : List A) (m : ℕ). Stand s at (runBytes state k) m × ((length k ≡ suc n) × RunOk state k)) (found-value (a ∷ more) xs l end q) (found-next (a ∷ more) xs l end q)
+        (stand-append s at (one state .write a) i (runBytes (step state a) more) l (x .0) (u .0), (ap suc (u .1 .0), (x .1, u .1 .1)))
+
+    pub run-writes : (n : ℕ) (state : S) (s : List ℕ) (at : ℕ) (xs : List A) (rest : List ℕ) → (length xs ≡ n) × RunOk state xs
+        → drop at s ≡ runBytes state xs ++ rest → run n state s at ≡ found xs (at + length (runBytes state xs))
+    unfolding inOrder
+    run-writes zero state s at [] rest k e = ap (found []) (omega arith)
+    run-writes zero state s at (a ∷ xs) rest k e = absurd (omega (arith, k .0))
+    run-writes (suc n) state s at [] rest k e = absurd (omega (arith, k .0))
+    run-writes (suc n) state s at (a ∷ xs) rest k e =
+        let X = one state .write a in
+        let Y = runBytes (step state a) xs in
+        let d = e ∙ append-assoc X Y rest in
+        rw (
+          one state .writes z s at a (Y ++ rest) (k .1 .0) d,
+          run-writes n (step state a) s (at + length X) xs rest (omega (arith, k .0), k .1 .1) (past s at X (Y ++ rest) d),
+        )
+        (ap (found (a ∷ xs)) (omega (arith, length-append X Y)))
+
+    pub run-short : (state : S) (xs : List A) → RunOk state xs → length (runBytes state xs) ≤ length xs * wide
+    run-short state [] k = omega arith
+    run-short state (a ∷ more) k = rw (length-append, suc-mul) (omega (arith, one state .short z a (k .0), run-short (step state a) more (k .1)))
+
+    pub run-same : (n : ℕ) (state : S) (s : List ℕ) (at m : ℕ) → Bytes s → at + n * wide + far ≤ m + wide → run n state (take m s) at ≡ run n state s at
+    unfolding inOrder
+    run-same zero state s at m y h = refl
+    run-same (suc n) state s at m y h =
+        let k : at + (n * wide + wide) + far ≤ m + wide = rw (suc-mul n wide) at h in
+        and-same (one state .read (take m s) at) (one state .read s at) _ _ (one state .same z s at m y (omega arith))
+        (λ a i e. and-same (run n (step state a) (take m s) i) (run n (step state a) s i) _ _
+        (run-same n (step state a) s i m y (omega (arith, ends (one state) z s at a i y e))) (λ more l f. refl))
+
+    pub run-accepts : (state : S) (xs : List A) → RunSized state xs → (inTurn (λ state. one state .judge) step state xs ≡ Accepted) ↔ RunOk state xs
+    unfolding inTurn
+    run-accepts state [] n = (λ e. tt, λ k. refl)
+    run-accepts state (a ∷ more) n =
+        let ands = before-accepts (one state .judge a) (inTurn (λ state. one state .judge) step (step state a) more) in
+        let here = one state .accepts z a (n .0) in
+        let there = run-accepts (step state a) more (n .1) in
+        (λ e. (here .0 (ands .0 e .0), there .0 (ands .0 e .1)), λ k. ands .1 (here .1 (k .0), there .1 (k .1)))
+
+    -- the first of a run, then the rest of it
+    step-refuses : (n : ℕ) (state : S) (s : List ℕ) (at : ℕ) (a : A) (more : List A) (rest : List ℕ) (r : Reason) (v : Verdict) → one state .judge a ≡ v → one state .Sized a → one state .Small a
+        → drop at s ≡ one state .write a ++ (runBytes (step state a) more ++ rest) → v before inTurn (λ state. one state .judge) step (step state a) more ≡ Refused r
+        → ((i : ℕ) → drop i s ≡ runBytes (step state a) more ++ rest → inTurn (λ state. one state .judge) step (step state a) more ≡ Refused r → run n (step state a) s i ≡ refused r)
+        → run (suc n) state s at ≡ refused r
+    unfolding inOrder
+    step-refuses n state s at a more rest r Accepted v m k d j later =
+        let X = one state .write a in
+        let Y = runBytes (step state a) more ++ rest in
+        rw (one state .writes z s at a Y (one state .accepts z a m .0 v) d, later (at + length X) (past s at X Y d) j)
+    step-refuses n state s at a more rest r (Refused q) v m k d j later = rw (one state .refuses z s at a (runBytes (step state a) more ++ rest) r m k d (v ∙ j))
+
+    pub run-refuses : (n : ℕ) (state : S) (s : List ℕ) (at : ℕ) (xs : List A) (rest : List ℕ) (r : Reason) → length xs ≡ n → RunSized state xs → RunSmall state xs
+        → drop at s ≡ runBytes state xs ++ rest → inTurn (λ state. one state .judge) step state xs ≡ Refused r → run n state s at ≡ refused r
+    unfolding inTurn
+    run-refuses zero state s at [] rest r long m k e j = not-accepted r (sym j)
+    run-refuses zero state s at (a ∷ more) rest r long m k e j = absurd (omega arith)
+    run-refuses (suc n) state s at [] rest r long m k e j = absurd (omega arith)
+    run-refuses (suc n) state s at (a ∷ more) rest r long m k e j =
+        step-refuses n state s at a more rest r (one state .judge a) refl (m .0) (k .0) (e ∙ append-assoc (one state .write a) (runBytes (step state a) more) rest) j
+        (λ i d q. run-refuses n (step state a) s i more rest r (omega arith) (m .1) (k .1) d q)
+
+  pub run-gives : (n : ℕ) (state : S) (s : List ℕ) (at : ℕ) → Gives (Arises whys) (run n state s at)
+  unfolding inOrder
+  run-gives zero state s at = gives-found (Arises whys) [] at
+  run-gives (suc n) state s at =
+      gives-then (Arises whys) (one state .read s at) _ (one state .gives s at)
+      (λ a i. gives-then (Arises whys) (run n (step state a) s i) _ (run-gives n (step state a) s i) (λ more k. gives-found (Arises whys) (a ∷ more) k))
+
+  -- of at most m
+  module _ (n m : ℕ) (few : n ≤ m) (z : Given) (state : S) where
+    pub run-most : (xs : List A) → (length xs ≡ n) × RunOk state xs → length (runBytes state xs) ≤ m * wide
+    run-most xs k = omega (arith, run-short z state xs (k .1), k .0, mul-le-mul {n₁ = length xs} {m₁ = wide} {n₂ = m} {m₂ = wide} (omega (arith, k .0)) (omega arith))
+
+    pub run-near : (s : List ℕ) (at i : ℕ) → Bytes s → at + (m * wide + (far - wide)) ≤ i → run n state (take i s) at ≡ run n state s at
+    run-near s at i y h = run-same z n state s at i y (omega (arith, mul-le-mul {n₁ = n} {m₁ = wide} {n₂ = m} {m₂ = wide} few (omega arith)))
+
+  -- n times, at most m
+  abbrev pub inTurns : (n m : ℕ) → (Given → n ≤ m) → S → Format (List A) Given (m * wide) (m * wide + (far - wide)) whys
+  inTurns n m few state = record {
+    read = run n state;
+    write = runBytes state;
+    Ok = λ xs. (length xs ≡ n) × RunOk state xs;
+    Sized = λ xs. (length xs ≡ n) × RunSized state xs;
+    Small = RunSmall state;
+    judge = inTurn (λ state. one state .judge) step state;
+    reads = λ z. run-reads z n state;
+    writes = λ z. run-writes z n state;
+    short = λ z. run-most n m (few z) z state;
+    same = λ z. run-near n m (few z) z state;
+    gives = run-gives n state;
+    accepts = λ z xs k. let a = run-accepts z state xs (k .1) in (λ e. (k .0, a .0 e), λ o. a .1 (o .1));
+    refuses = λ z s at xs rest r m k e j. run-refuses z n state s at xs rest r (m .0) (m .1) k e j;
+  }
+
+-- ---- the same part each time
+
+-- nothing is kept
+abbrev pub kept : {A : Type 0} → Unit {0} → A → Unit {0}
+kept state a = tt
+
+pub each-all : {A : Type 0} (P : A → Type 0) (xs : List A) → InTurn kept (λ _. P) tt xs ↔ All P xs
+each-all P [] = (λ k. k, λ k. k)
+each-all P (a ∷ more) = (λ k. (k .0, each-all P more .0 (k .1)), λ k. (k .0, each-all P more .1 (k .1)))
+
+module _ {A Given : Type 0} {wide far : ℕ} {whys : List Reason} (F : Format A Given wide far whys) where
+  abbrev pub each : Unit {0} → Format A Given wide far whys
+  each state = F
+
+  pub each-read : (n : ℕ) (s : List ℕ) (at : ℕ) → times n (F .read) s at ≡ run each kept n tt s at
+  unfolding times inOrder
+  each-read zero s at = refl
+  each-read (suc n) s at = and-same (F .read s at) (F .read s at) _ _ refl (λ a i e. and-same (times n (F .read) s i) (run each kept n tt s i) _ _ (each-read n s i) (λ more k f. refl))
+
+  abbrev pub repeated : (n m : ℕ) → (Given → n ≤ m) → Format (List A) Given (m * wide) (m * wide + (far - wide)) whys
+  repeated n m few =
+      rejudged (retold (inTurns each kept n m few tt) (times n (F .read)) (flatMap (F .write)) (each-read n) (run-flat each kept (F .write) (λ _ a. refl) tt))
+      (record {
+        Ok = λ xs. (length xs ≡ n) × All (F .Ok) xs;
+        Sized = λ xs. (length xs ≡ n) × All (F .Sized) xs;
+        judge = every (F .judge);
+        ok-is = λ z xs. (λ k. (k .0, each-all (F .Ok) xs .0 (k .1)), λ k. (k .0, each-all (F .Ok) xs .1 (k .1)));
+        short = λ z xs k. rw (run-flat each kept (F .write) (λ _ a. refl) tt xs) (run-most each kept n m (few z) z tt xs (k .0, each-all (F .Ok) xs .1 (k .1)));
+        accepts = λ z xs k.
+            let a = run-accepts each kept z tt xs (each-all (F .Sized) xs .1 (k .1)) in
+            (λ e. (k .0, each-all (F .Ok) xs .0 (a .0 (every-in-turn (F .judge) xs ∙ e))), λ o. sym (every-in-turn (F .judge) xs) ∙ a .1 (each-all (F .Ok) xs .1 (o .1)));
+        sized-is = λ xs k. (k .0, each-all (F .Sized) xs .1 (k .1));
+        judge-is = λ xs k. sym (every-in-turn (F .judge) xs);
+      })
+
+-- .. judged as one: a test of each, and one refusal
+abbrev pub alike : {A Given : Type 0} {wide far : ℕ} {whys : List Reason} (F : Format A Given wide far whys) (ok : A → Bool) (why : Reason) → ((a : A) → F .judge a ≡ check (ok a) why)
+    → (n m : ℕ) → (Given → n ≤ m) → Format (List A) Given (m * wide) (m * wide + (far - wide)) whys
+alike F ok why is n m few =
+    let G = repeated F n m few in
+    rejudged G (record {
+      Ok = G .Ok;
+      Sized = G .Sized;
+      judge = λ xs. check (all ok xs) why;
+      ok-is = λ z xs. (λ k. k, λ k. k);
+      short = G .short;
+      accepts = λ z xs k. rw (← every-judged ok why xs, ← every-ext (F .judge) (λ a. check (ok a) why) xs is) (G .accepts z xs k);
+      sized-is = λ xs k. k;
+      judge-is = λ xs k. sym (every-ext (F .judge) (λ a. check (ok a) why) xs is ∙ every-judged ok why xs);
+    })
+
+-- n numbers of low to high
+abbrev pub numbers : {Given : Type 0} (n m : ℕ) → (Given → n ≤ m) → (low high : ℕ) (why : Reason) (w : ℕ) → 0 < w → (Given → (high < 128 ^ w) × (high < 128 ^ 3))
+    → Format (List ℕ) Given (m * w) (m * w + (3 - w)) (why ∷ [])
+numbers n m few low high why w l h = alike (bounded low high why w l h) (within low high) why (λ v. refl) n m few

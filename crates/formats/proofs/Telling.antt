@@ -1,0 +1,123 @@
+-- A format told otherwise: by another reader and writer, by another verdict, as another type, in another edition.
+-- Assumes nothing.
+use Prim.Native.Nat.{ℕ, _≤_}
+use mathlib.Core.Path.{_≡_, refl, sym, ap, _∙_, subst₂}
+use mathlib.Core.Logic.{_↔_}
+use mathlib.Core.List.{List, []}
+use native.Mathlib.Omega.{arith}
+use lib.ListN.{length, take, drop}
+use Rattle.refusal.specs.declared.Reason.{Reason}
+use Rattle.refusal.specs.declared.Verdict.{Verdict}
+use Rattle.refusal.specs.declared.Verdict.the-variants.{Accepted}
+use Rattle.number.specs.Readers.{found, Reader, andThen, give}
+use Rattle.number.proofs.Steps.{went-on, found-value, found-next}
+use Rattle.fields.proofs.Codecs.{Stand}
+use Rattle.fields.proofs.Refusing.{gives-found, gives-then}
+use Rattle.formats.proofs.Verdicts.{not-accepted}
+use Rattle.formats.proofs.Formats.{Arises, Format}
+
+-- a reader and a writer written otherwise
+abbrev pub retold : {A Given : Type 0} {wide far : ℕ} {whys : List Reason} (F : Format A Given wide far whys) (read : Reader A) (write : A → List ℕ)
+    → ((s : List ℕ) (at : ℕ) → read s at ≡ F .read s at) → ((a : A) → write a ≡ F .write a) → Format A Given wide far whys
+retold F read write read-is write-is = record {
+  read = read;
+  write = write;
+  Ok = F .Ok;
+  Sized = F .Sized;
+  Small = F .Small;
+  judge = F .judge;
+  reads = λ z s at a n y e. let r = F .reads z s at a n y (sym (read-is s at) ∙ e) in (rw (write-is a) (r .0), r .1);
+  writes = λ z s at a rest k e. rw (write-is a) (read-is s at ∙ F .writes z s at a rest k (rw (write-is a) at e));
+  short = λ z a k. rw (write-is a) (F .short z a k);
+  same = λ z s at m y h. read-is (take m s) at ∙ F .same z s at m y h ∙ sym (read-is s at);
+  gives = λ s at r e. F .gives s at r (sym (read-is s at) ∙ e);
+  accepts = F .accepts;
+  refuses = λ z s at a rest r n k e j. read-is s at ∙ F .refuses z s at a rest r n k (rw (write-is a) at e) j;
+}
+
+-- the same values, with their bounds and their verdict said otherwise
+pub record Rejudging {A Given : Type 0} {wide far : ℕ} {whys : List Reason} (F : Format A Given wide far whys) (wide′ : ℕ) : Type 1 where
+  pub Ok : A → Type 0
+  pub Sized : A → Type 0
+  pub judge : A → Verdict
+  pub ok-is : Given → (a : A) → F .Ok a ↔ Ok a
+  pub short : Given → (a : A) → Ok a → length (F .write a) ≤ wide′
+  pub accepts : Given → (a : A) → Sized a → (judge a ≡ Accepted) ↔ Ok a
+  pub sized-is : (a : A) → Sized a → F .Sized a
+  pub judge-is : (a : A) → F .Small a → judge a ≡ F .judge a
+
+abbrev pub rejudged : {A Given : Type 0} {wide far wide′ : ℕ} {whys : List Reason} (F : Format A Given wide far whys) → Rejudging F wide′ → Format A Given wide′ far whys
+rejudged F R = record {
+  read = F .read;
+  write = F .write;
+  Ok = R .Ok;
+  Sized = R .Sized;
+  Small = F .Small;
+  judge = R .judge;
+  reads = λ z s at a n y e. let r = F .reads z s at a n y e in (r .0, R .ok-is z a .0 (r .1));
+  writes = λ z s at a rest k e. F .writes z s at a rest (R .ok-is z a .1 k) e;
+  short = R .short;
+  same = F .same;
+  gives = F .gives;
+  accepts = R .accepts;
+  refuses = λ z s at a rest r n k e j. F .refuses z s at a rest r (R .sized-is a n) k e (sym (R .judge-is a k) ∙ j);
+}
+
+-- the same as another type's values
+abbrev pub mapped : {A B Given : Type 0} {wide far : ℕ} {whys : List Reason} (F : Format A Given wide far whys) (make : A → B) (view : B → A)
+    → ((a : A) → view (make a) ≡ a) → ((b : B) → make (view b) ≡ b) → Format B Given wide far whys
+mapped {whys} F make view there back = record {
+  read = λ s at. andThen (F .read s at) (λ a n. found (make a) n);
+  write = λ b. F .write (view b);
+  Ok = λ b. F .Ok (view b);
+  Sized = λ b. F .Sized (view b);
+  Small = λ b. F .Small (view b);
+  judge = λ b. F .judge (view b);
+  reads = λ z s at b n y e.
+      let (a, i, f, p) = went-on (F .read s at) (λ a n. found (make a) n) b n e in
+      let same : a ≡ view b = sym (there a) ∙ ap view (found-value (make a) b i n p) in
+      subst₂ (λ c m. Stand s at (F .write c) m × F .Ok c) same (found-next (make a) b i n p) (F .reads z s at a i y f);
+  writes = λ z s at b rest k e. rw (F .writes z s at (view b) rest k e, back b);
+  short = λ z b k. F .short z (view b) k;
+  same = λ z s at m y h. ap (λ f. andThen f (λ a n. found (make a) n)) (F .same z s at m y h);
+  gives = λ s at. gives-then (Arises whys) (F .read s at) _ (F .gives s at) (λ a n. gives-found (Arises whys) (make a) n);
+  accepts = λ z b n. F .accepts z (view b) n;
+  refuses = λ z s at b rest r n k e j. rw (F .refuses z s at (view b) rest r n k e j);
+}
+
+-- nothing is written, and what stands for it is known
+abbrev pub absent : {A Given : Type 0} (a : A) → Format A Given 0 0 []
+absent a = record {
+  read = give a;
+  write = λ b. [];
+  Ok = λ b. b ≡ a;
+  Sized = λ b. b ≡ a;
+  Small = λ b. Unit;
+  judge = λ b. Accepted;
+  reads = λ z s at b n y e. (record { here = ap (λ (m : ℕ). drop m s) (found-next a b at n e); next = omega (arith, found-next a b at n e) }, sym (found-value a b at n e));
+  writes = λ z s at b rest k e. rw k (ap (found a) (omega arith));
+  short = λ z b k. omega arith;
+  same = λ z s at m y h. refl;
+  gives = λ s at. gives-found (Arises []) a at;
+  accepts = λ z b n. (λ e. n, λ k. refl);
+  refuses = λ z s at b rest r n k e j. not-accepted r (sym j);
+}
+
+-- a format that is to stand beside a longer one, as of another edition
+abbrev pub widened : {A Given : Type 0} {wide far wide′ far′ : ℕ} {whys whys′ : List Reason} (F : Format A Given wide far whys) → wide ≤ wide′ → far ≤ far′
+    → ((r : Reason) → Arises whys r → Arises whys′ r) → Format A Given wide′ far′ whys′
+widened F w f more = record {
+  read = F .read;
+  write = F .write;
+  Ok = F .Ok;
+  Sized = F .Sized;
+  Small = F .Small;
+  judge = F .judge;
+  reads = F .reads;
+  writes = F .writes;
+  short = λ z a k. omega (arith, F .short z a k);
+  same = λ z s at m y h. F .same z s at m y (omega arith);
+  gives = λ s at r e. more r (F .gives s at r e);
+  accepts = F .accepts;
+  refuses = F .refuses;
+}

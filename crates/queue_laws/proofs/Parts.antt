@@ -1,0 +1,79 @@
+-- The queue message as one format: what it holds, in message order.
+-- Assumes nothing.
+use Prim.Native.Nat.{ℕ, _+_, _^_, _≤_}
+use mathlib.Core.Path.{refl}
+use mathlib.Core.List.{List, [], _∷_}
+use native.Mathlib.Omega.{arith}
+use lib.ListN.{length-append}
+use borrow.Author.Tests.{lt-ltb}
+use Rattle.refusal.specs.declared.Reason.the-variants.{Edition, Kinds, Goal, Shift, Start, Gap, Weight, Window, Jobs, Kind}
+use Rattle.number.specs.Numbers.{encode}
+use Rattle.number.proofs.Encoding.{length-encode}
+use Rattle.fields.specs.Fields.{within, all}
+use Rattle.queue.specs.declared.Settings.{Settings}
+use Rattle.queue.specs.Record.{windowOk}
+use Rattle.queue.proofs.Windows.{good-window, window-good}
+use Rattle.fields.specs.Messages.{check}
+use Rattle.formats.proofs.Verdicts.{judged-accepts}
+use Rattle.formats.proofs.Formats.{Format}
+use Rattle.formats.proofs.Telling.{rejudged, mapped}
+use Rattle.formats.proofs.Numbers.{anyNumber, tested, oneByte}
+use Rattle.formats.proofs.Pairs.{andNext}
+use Rattle.formats.proofs.Runs.{alike, numbers}
+
+-- N, goal, m, s
+abbrev settingsParts : {Given : Type 0} → Format (ℕ × (ℕ × (ℕ × ℕ))) Given 4 6 (Kinds ∷ Goal ∷ Shift ∷ Start ∷ [])
+settingsParts =
+    andNext (oneByte 1 5 Kinds (λ z. omega arith)) λ n.
+    andNext (oneByte 1 2 Goal (λ z. omega arith)) λ goal.
+    andNext (oneByte 0 60 Shift (λ z. omega arith)) λ shift.
+    oneByte 0 n Start (λ z. omega arith)
+
+-- .. as the record that they are read to
+abbrev pub settingsFormat : {Given : Type 0} → Format Settings Given 4 6 (Kinds ∷ Goal ∷ Shift ∷ Start ∷ [])
+settingsFormat = mapped settingsParts (λ p. record { kinds = p .0; goal = p .1 .0; «max_shift» = p .1 .1 .0; start = p .1 .1 .1 })
+    (λ f. (f .kinds, (f .goal, (f .«max_shift», f .start)))) (λ p. refl) (λ f. refl)
+
+-- a_j b_j
+abbrev pub WindowOk : ℕ × ℕ → Type 0
+WindowOk w = (1 ≤ w .0) × (w .0 ≤ w .1) × (w .1 ≤ 60)
+
+-- judged after b_j
+abbrev pub windowFormat : {Given : Type 0} → Format (ℕ × ℕ) Given 2 6 (Window ∷ [])
+windowFormat =
+    rejudged (andNext (anyNumber 3 (omega arith)) λ a. tested 3 (λ b. windowOk (a, b)) Window 1 (omega arith) (omega arith) (λ z b e. let k = good-window a b e in (omega arith, omega arith)))
+    (record {
+      Ok = WindowOk;
+      Sized = λ w. Unit;
+      judge = λ w. check (windowOk w) Window;
+      ok-is = λ z w. (λ k. good-window (w .0) (w .1) (k .1), λ k. (omega (arith, k), window-good (w .0) (w .1) (k .0) (k .1) (k .2)));
+      short = λ z w k. omega (arith, length-append (encode (w .0)) (encode (w .1)), length-encode 1 (w .0) (omega arith) (omega (arith, k)), length-encode 1 (w .1) (omega arith) (omega (arith, k)));
+      accepts = λ z w _. (λ e. good-window (w .0) (w .1) (judged-accepts (windowOk w) Window .0 e), λ k. judged-accepts (windowOk w) Window .1 (window-good (w .0) (w .1) (k .0) (k .1) (k .2)));
+      sized-is = λ w n. (tt, tt);
+      judge-is = λ w k. rw (lt-ltb (w .0) (128 ^ 3) (k .0));
+    })
+
+-- gap rows 0 to N (N numbers each), w_1 .. w_N, a_1 b_1 .. a_N b_N
+abbrev pub tablesFormat : {Given : Type 0} (n : ℕ) → (Given → n ≤ 5) → Format (List (List ℕ) × (List ℕ × List (ℕ × ℕ))) Given 110 114 (Gap ∷ Weight ∷ Window ∷ [])
+tablesFormat n few =
+    andNext (alike (numbers n 5 few 0 65535 Gap 3 (omega arith) (λ z. (omega arith, omega arith))) (all (within 0 65535)) Gap (λ row. refl) (n + 1) 6 (λ z. let k = few z in omega arith)) λ rows.
+    andNext (numbers n 5 (λ z. few (z .0)) 0 1000 Weight 2 (omega arith) (λ z. (omega arith, omega arith))) λ weights.
+    alike windowFormat windowOk Window (λ w. refl) n 5 (λ z. few (z .0 .0))
+
+-- T, then the T kinds
+abbrev pub jobsFormat : {Given : Type 0} (n : ℕ) → (Given → n ≤ 5) → Format (ℕ × List ℕ) Given 61 63 (Jobs ∷ Kind ∷ [])
+jobsFormat n few =
+    andNext (oneByte 0 60 Jobs (λ z. omega arith)) λ t.
+    numbers t 60 (λ z. omega arith) 1 n Kind 1 (omega arith) (λ z. let k = few (z .0) in (omega arith, omega arith))
+
+-- what a message holds between its two ends
+abbrev pub Parts : Type 0
+Parts = ℕ × (Settings × ((List (List ℕ) × (List ℕ × List (ℕ × ℕ))) × (ℕ × List ℕ)))
+
+-- edition 1, the settings, the tables, the jobs
+abbrev pub queueFormat : Format Parts (Unit {0}) 176 178 (Edition ∷ Kinds ∷ Goal ∷ Shift ∷ Start ∷ Gap ∷ Weight ∷ Window ∷ Jobs ∷ Kind ∷ [])
+queueFormat =
+    andNext (oneByte 1 1 Edition (λ z. omega arith)) λ edition.
+    andNext settingsFormat λ f.
+    andNext (tablesFormat (f .kinds) (λ z. omega arith)) λ tables.
+    jobsFormat (f .kinds) (λ z. omega arith)

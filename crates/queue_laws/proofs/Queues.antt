@@ -1,0 +1,194 @@
+-- The definitions of the queue message say its format; so the laws of formats hold of them.
+-- Assumes nothing.
+use Prim.Native.Nat.{ℕ, _+_, _-_, _^_, _<_, _≤_}
+use mathlib.Core.Path.{_≡_, refl, sym, ap, _∙_}
+use mathlib.Core.List.{List, [], _∷_, _++_, map, flatMap, append-assoc}
+use native.Mathlib.Omega.{arith}
+use lib.ListN.{length, getD, length-map}
+use Rattle.refusal.specs.declared.Reason.{Reason}
+use Rattle.refusal.specs.declared.Reason.the-variants.{Opening, Trailing, Edition, Kinds, Goal, Shift, Start, Gap, Weight, Window, Jobs, Kind}
+use Rattle.refusal.specs.declared.Verdict.the-variants.{Accepted}
+use Rattle.fields.specs.Lists.{tabulate, filled}
+use Rattle.fields.proofs.Codecs.{All, all-map}
+use Rattle.fields.proofs.Tables.{length-tabulate, all-tabulate, tabulate-all}
+use Rattle.fields.proofs.Arrays.{tabulate-filled, tabulate-pairs}
+use Rattle.queue.specs.declared.Queue.{Queue}
+use Rattle.queue.specs.Record.{gap, weight, firstPlace, lastPlace, kind, rows, weightList, windows, kindList, Valid, Fits}
+use Rattle.queue.specs.Reading.{settings, tables, head, headOf, withJobs, jobs, queue, cleared}
+use Rattle.number.specs.Numbers.{encode}
+use Rattle.fields.specs.Fields.{encodeAll}
+use Rattle.queue.specs.Writing.{encodeWindow, headBytes, jobBytes, message, judgeSettings, judgeTables, judgeHead, judgeJobs, judge}
+use Rattle.formats.proofs.Verdicts.{before-assoc}
+use Rattle.formats.proofs.Pairs.{and-assoc}
+use Rattle.formats.proofs.Runs.{InTurn, kept, each-all, all-any}
+use Rattle.formats.proofs.Messages.{Message, Tied, whole, laws}
+use Rattle.queue_laws.proofs.GapRows.{rows-back}
+use Rattle.queue_laws.proofs.Parts.{WindowOk, Parts, settingsFormat, queueFormat}
+
+-- a record's parts, up to N and T
+abbrev pub view : Queue → Parts
+view q = (1, (record { kinds = q .kinds; goal = q .goal; «max_shift» = q .«max_shift»; start = q .start }, ((rows q, (weightList q, windows q)), (q .jobs, kindList q))))
+
+-- the record that they are read to
+abbrev pub make : Parts → Queue
+make p = withJobs (headOf (p .1 .0) (p .1 .1 .0 .0) (p .1 .1 .0 .1 .0) (p .1 .1 .0 .1 .1)) (p .1 .1 .1 .0) (p .1 .1 .1 .1)
+
+read-is : (s : List ℕ) → queue s 0 ≡ whole 0x51 0x53 queueFormat make s 0
+unfolding queue head settings tables jobs
+read-is s = simp and-assoc
+
+-- the message's bytes, grouped as its parts are
+grouped : (o e n g m s r w p t k : List ℕ) → o ++ e ++ (n ++ g ++ m ++ s ++ r ++ w ++ p) ++ (t ++ k) ≡ o ++ (e ++ ((n ++ (g ++ (m ++ s))) ++ ((r ++ (w ++ p)) ++ (t ++ k))))
+grouped o e n g m s r w p t k = simp append-assoc
+
+pub message-is : (q : Queue) → message q ≡ (0x51 ∷ 0x53 ∷ []) ++ queueFormat .write (view q)
+unfolding message headBytes jobBytes
+message-is q =
+    grouped (0x51 ∷ 0x53 ∷ []) (encode 1) (encode (q .kinds)) (encode (q .goal)) (encode (q .«max_shift»)) (encode (q .start))
+    (flatMap encodeAll (rows q)) (encodeAll (weightList q)) (flatMap encodeWindow (windows q)) (encode (q .jobs)) (encodeAll (kindList q))
+
+-- the verdict is the format's
+pub judge-is : (q : Queue) → judge q ≡ queueFormat .judge (view q)
+unfolding judge judgeHead judgeSettings judgeTables judgeJobs
+judge-is q = before-assoc (judgeSettings q) (judgeTables q) (judgeJobs q)
+
+-- settings that are accepted have at most 5 kinds
+pub few-kinds : (q : Queue) → judgeSettings q ≡ Accepted → q .kinds ≤ 5
+unfolding judgeSettings
+few-kinds q e = settingsFormat {Given = Unit {0}} .accepts tt (view q .1 .0) (tt, (tt, (tt, tt))) .0 e .0 .1
+
+-- ---- a record made of parts holds them
+
+-- an array gives back the n numbers that it was filled with
+array-back : (m n : ℕ) (vs : List ℕ) → length vs ≡ n → n ≤ m → tabulate (λ j. getD (filled m vs) (j - 1) 0) 1 n ≡ vs
+array-back m n vs long few = ap (tabulate (λ j. getD (filled m vs) (j - 1) 0) 1) (sym long) ∙ tabulate-filled m vs (omega arith)
+
+-- as many of each table's numbers as N says, in arrays that hold 5
+abbrev pub TablesFit : Parts → Type 0
+TablesFit p = let n : ℕ = p .1 .0 .kinds in (n ≤ 5) × ((length (p .1 .1 .0 .0) ≡ n + 1) × All (λ r. length r ≡ n) (p .1 .1 .0 .0)) × (length (p .1 .1 .0 .1 .0) ≡ n) × (length (p .1 .1 .0 .1 .1) ≡ n)
+
+module _ (p : Parts) where
+  pub tables-back : TablesFit p → view (make p) .1 .1 .0 ≡ p .1 .1 .0
+  tables-back (five, rows, weights, pairs) =
+      let n = p .1 .0 .kinds in
+      let ws = p .1 .1 .0 .1 .1 in
+      let side : (f : ℕ × ℕ → ℕ) → tabulate (λ j. getD (filled 5 (map f ws)) (j - 1) 0) 1 n ≡ map f ws = λ f. array-back 5 n (map f ws) (length-map ws f ∙ pairs) five in
+      let gaps-same = rows-back n (p .1 .1 .0 .0) five (rows .0) (rows .1) in
+      let weights-same = array-back 5 n (p .1 .1 .0 .1 .0) weights five in
+      let places-same = tabulate-pairs (firstPlace (make p)) (lastPlace (make p)) 1 n ws (side (λ w. w .0)) (side (λ w. w .1)) in
+      λ i. (gaps-same i, (weights-same i, places-same i))
+
+  pub kinds-back : length (p .1 .1 .1 .1) ≡ p .1 .1 .1 .0 → p .1 .1 .1 .0 ≤ 60 → kindList (make p) ≡ p .1 .1 .1 .1
+  kinds-back long few = array-back 60 (p .1 .1 .1 .0) (p .1 .1 .1 .1) long few
+
+  holds : queueFormat .Ok p → view (make p) ≡ p
+  holds k =
+      let ok = k .1 .1 .0 in
+      let one : 1 ≡ p .0 = omega (arith, k .0) in
+      let tables = tables-back (k .1 .0 .0 .1, (ok .0 .0, all-map _ _ (p .1 .1 .0 .0) (λ r h. h .0) (ok .0 .1)), ok .1 .0 .0, ok .1 .1 .0) in
+      let kinds = kinds-back (k .1 .1 .1 .1 .0) (k .1 .1 .1 .0 .1) in
+      λ i. (one i, (p .1 .0, (tables i, (p .1 .1 .1 .0, kinds i))))
+
+-- ---- a record's own parts
+
+module _ (q : Queue) where
+  abbrev row : ℕ → List ℕ
+  row i = tabulate (gap q i) 1 (q .kinds)
+
+  abbrev places : ℕ → ℕ × ℕ
+  places j = (firstPlace q j, lastPlace q j)
+
+  -- any record has as many of each as its N and T say
+  pub sized : queueFormat .Sized (view q)
+  sized =
+      let rows-sized = all-tabulate row (λ r. (length r ≡ q .kinds) × All (λ v. Unit {0}) r) 0 (q .kinds + 1) (λ i a b. (length-tabulate (gap q i) 1 (q .kinds), all-any (row i))) in (
+        tt,
+        (
+          (tt, (tt, (tt, tt))),
+          (
+            ((length-tabulate row 0 (q .kinds + 1), rows-sized), ((length-tabulate (weight q) 1 (q .kinds), all-any (weightList q)), (length-tabulate places 1 (q .kinds), all-any (windows q)))),
+            (tt, (length-tabulate (kind q) 1 (q .jobs), all-any (kindList q))),
+          ),
+        ),
+      )
+
+  -- 01's bounds, part by part
+  ok-valid : queueFormat .Ok (view q) → Valid q
+  ok-valid k =
+      let f = k .1 .0 in
+      let t = k .1 .1 .0 in
+      let j = k .1 .1 .1 in
+      record {
+        kinds = f .0;
+        goal = f .1 .0;
+        shift = f .1 .1 .0 .1;
+        start = f .1 .1 .1 .1;
+        gaps = λ i j a b d. tabulate-all (gap q i) (λ v. (0 ≤ v) × (v ≤ 65535)) 1 (q .kinds) (tabulate-all row _ 0 (q .kinds + 1) (t .0 .1) i (omega arith) (omega arith) .1) j b (omega arith) .1;
+        weights = λ j a b. tabulate-all (weight q) (λ v. (0 ≤ v) × (v ≤ 1000)) 1 (q .kinds) (t .1 .0 .1) j a (omega arith) .1;
+        places = λ j a b. tabulate-all places WindowOk 1 (q .kinds) (t .1 .1 .1) j a (omega arith);
+        jobs = j .0 .1;
+        kinds-of-jobs = λ i a b. tabulate-all (kind q) (λ v. (1 ≤ v) × (v ≤ q .kinds)) 1 (q .jobs) (j .1 .1) i a (omega arith);
+      }
+
+  valid-ok : Valid q → queueFormat .Ok (view q)
+  valid-ok v =
+      let n = sized .1 .1 in
+      let gaps : (i : ℕ) → 0 ≤ i → i < 0 + (q .kinds + 1) → (length (row i) ≡ q .kinds) × All (λ w. (0 ≤ w) × (w ≤ 65535)) (row i) = λ i a b.
+      (length-tabulate (gap q i) 1 (q .kinds), all-tabulate (gap q i) (λ w. (0 ≤ w) × (w ≤ 65535)) 1 (q .kinds) (λ j c d. (omega arith, v .gaps i j (omega arith) c (omega arith)))) in (
+        (omega arith, omega arith),
+        (
+          (v .kinds, (v .goal, ((omega arith, v .shift), (omega arith, v .start)))),
+          (
+            (
+              (n .0 .0 .0, all-tabulate row _ 0 (q .kinds + 1) gaps),
+              (
+                (n .0 .1 .0 .0, all-tabulate (weight q) (λ w. (0 ≤ w) × (w ≤ 1000)) 1 (q .kinds) (λ j a b. (omega arith, v .weights j a (omega arith)))),
+                (n .0 .1 .1 .0, all-tabulate places WindowOk 1 (q .kinds) (λ j a b. v .places j a (omega arith))),
+              ),
+            ),
+            ((omega arith, v .jobs), (n .1 .1 .0, all-tabulate (kind q) (λ w. (1 ≤ w) × (w ≤ q .kinds)) 1 (q .jobs) (λ i a b. v .kinds-of-jobs i a (omega arith)))),
+          ),
+        ),
+      )
+
+  -- numbers of at most three groups
+  fits-small : Fits q → queueFormat .Small (view q)
+  fits-small f =
+      let each : (xs : List ℕ) → All (λ v. v < 2 ^ 21) xs → InTurn kept (λ _ v. v < 2 ^ 21) tt xs = λ xs. each-all (λ v. v < 2 ^ 21) xs .1 in (
+        omega arith,
+        (
+          (f .kinds, (f .goal, (f .shift, f .start))),
+          (
+            (
+              each-all (λ r. InTurn kept (λ _ v. v < 2 ^ 21) tt r) (rows q) .1
+                  (all-tabulate row _ 0 (q .kinds + 1) (λ i a b. each (row i) (all-tabulate (gap q i) _ 1 (q .kinds) (λ j c d. f .gaps i j (omega arith) c (omega arith))))),
+              (
+                each (weightList q) (all-tabulate (weight q) _ 1 (q .kinds) (λ j a b. f .weights j a (omega arith))),
+                each-all (λ (w : ℕ × ℕ). (w .0 < 2 ^ 21) × (w .1 < 2 ^ 21)) (windows q) .1 (all-tabulate places _ 1 (q .kinds) (λ j a b. f .places j a (omega arith))),
+              ),
+            ),
+            (f .jobs, each (kindList q) (all-tabulate (kind q) _ 1 (q .jobs) (λ i a b. f .kinds-of-jobs i a (omega arith)))),
+          ),
+        ),
+      )
+
+tied : Tied 0x51 0x53 queueFormat make view queue message Valid Fits judge cleared
+unfolding cleared
+tied = record {
+  read-is = read-is;
+  message-is = message-is;
+  valid-is = λ q. (ok-valid q, valid-ok q);
+  fits-is = fits-small;
+  judge-is = judge-is;
+  cleared-is = λ q. refl;
+  sized = sized;
+  holds = holds;
+}
+
+-- 01's refusals 1 to 14, beside 2 and 3, which any number can give
+abbrev pub queueRefusals : List Reason
+queueRefusals = Opening ∷ Trailing ∷ Edition ∷ Kinds ∷ Goal ∷ Shift ∷ Start ∷ Gap ∷ Weight ∷ Window ∷ Jobs ∷ Kind ∷ []
+
+-- at most 178 bytes, of which the first 180 decide
+pub queue-message : Message queue message Valid Fits judge cleared 178 180 queueRefusals
+queue-message = laws tied 180 (omega arith) (omega arith)

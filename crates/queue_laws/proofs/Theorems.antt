@@ -1,0 +1,122 @@
+-- What reading and writing queues promise together, from the message's one format.
+-- Assumes nothing.
+use Prim.Native.Nat.{ℕ, _≤_}
+use mathlib.Core.Path.{_≡_, refl, sym, ap, _∙_}
+use mathlib.Core.Bool.{Bool, true}
+use mathlib.Core.Logic.{_↔_}
+use mathlib.Core.List.{List}
+use native.Mathlib.Omega.{arith}
+use lib.Dec.{leb}
+use lib.ListN.{length, take}
+use borrow.Author.Tests.{leb-true}
+use Rattle.refusal.specs.declared.Reason.{Reason}
+use Rattle.refusal.specs.declared.Reason.the-variants.{Opening, Ends, Malformed, Edition, Kinds, Goal, Shift, Start, Gap, Weight, Window, Jobs, Kind, Trailing, Buffer, Table, Order, Job}
+use Rattle.refusal.specs.declared.Verdict.the-variants.{Accepted, Refused}
+use Rattle.refusal.specs.Reasons.{reasonNumber, needed}
+use Rattle.number.specs.Readers.{Found, found, refused}
+use Rattle.fields.specs.Fields.{all}
+use Rattle.fields.proofs.Codecs.{Bytes}
+use Rattle.fields.proofs.Tables.{all-true}
+use Rattle.queue.specs.declared.Queue.{Queue}
+use Rattle.queue.specs.declared.Reading.{Reading}
+use Rattle.queue.specs.Record.{Valid, Fits}
+use Rattle.queue.specs.Reading.{queue, accepted, asReading, readQueue, cleared}
+use Rattle.queue.specs.Writing.{message, judge}
+use Rattle.formats.proofs.Formats.{arises-in}
+use Rattle.queue_laws.proofs.Queues.{queueRefusals, queue-message}
+
+-- ---- what the answer says of what was found
+
+accepted-found : (f : Found Queue) → asReading f .verdict ≡ Accepted → (n : ℕ) × (f ≡ found (asReading f .queue) n)
+accepted-found (found q n) e = (n, refl)
+accepted-found (refused r) e = let z : _≡_ {A = ℕ} 0 1 = cc in absurd (omega arith)
+
+refused-as : (f : Found Queue) (r : Reason) → asReading f .verdict ≡ Refused r → f ≡ refused r
+refused-as (found q n) r e = let z : _≡_ {A = ℕ} 0 1 = cc in absurd (omega arith)
+refused-as (refused q) r e = cc
+
+-- ---- the laws
+
+-- a record within 01's bounds, written and read, is the same record up to N and T
+pub written-read : (q : Queue) → Valid q → readQueue (message q) ≡ accepted (cleared q)
+unfolding readQueue
+written-read q v = ap asReading (queue-message .written q v)
+
+module _ (s : List ℕ) (y : Bytes s) (a : readQueue s .verdict ≡ Accepted) where
+  -- an accepted message is its record's message; its record is within 01's bounds, and holds 0 past N and T
+  accepted-back : (message (readQueue s .queue) ≡ s) × Valid (readQueue s .queue) × (cleared (readQueue s .queue) ≡ readQueue s .queue)
+  unfolding readQueue
+  accepted-back = let (n, e) = accepted-found (queue s 0) a in queue-message .back s y (asReading (queue s 0) .queue) n e
+
+  -- accepted bytes, read and written again, are the same bytes
+  pub read-written : message (readQueue s .queue) ≡ s
+  read-written = accepted-back .0
+
+  pub accepted-valid : Valid (readQueue s .queue)
+  accepted-valid = accepted-back .1
+
+  pub accepted-cleared : cleared (readQueue s .queue) ≡ readQueue s .queue
+  accepted-cleared = accepted-back .2
+
+-- bytes are accepted exactly when they are the message of a record within 01's bounds
+pub accepted-exactly : (s : List ℕ) → Bytes s → (readQueue s .verdict ≡ Accepted) ↔ ((q : Queue) × Valid q × (s ≡ message q))
+accepted-exactly s y = (
+  λ a. (readQueue s .queue, accepted-valid s y a, sym (read-written s y a)),
+  λ m. ap (λ (t : List ℕ). readQueue t .verdict) (m .2) ∙ ap (λ (r : Reading). r .verdict) (written-read (m .0) (m .1)),
+)
+
+-- the first 180 bytes decide the answer
+pub first-180 : (s : List ℕ) → Bytes s → readQueue (take 180 s) ≡ readQueue s
+unfolding readQueue
+first-180 s y = ap asReading (queue-message .same s y)
+
+pub message-length : (q : Queue) → Valid q → length (message q) ≤ 178
+message-length q v = queue-message .short q v
+
+pub accepted-length : (s : List ℕ) → Bytes s → readQueue s .verdict ≡ Accepted → length s ≤ 178
+accepted-length s y a = rw (read-written s y a) at (message-length (readQueue s .queue) (accepted-valid s y a))
+
+-- the verdict accepts exactly what is within 01's bounds
+pub judged-valid : (q : Queue) → judge q ≡ Accepted → Valid q
+judged-valid q e = queue-message .accepts q .0 e
+
+pub valid-judged : (q : Queue) → Valid q → judge q ≡ Accepted
+valid-judged q v = queue-message .accepts q .1 v
+
+-- ---- refusals
+
+-- one of 01's refusals 1 to 14
+abbrev pub OfMessage : Reason → Type 0
+OfMessage r = reasonNumber r ≤ 14
+
+pub queue-refusal : (s : List ℕ) (r : Reason) → readQueue s .verdict ≡ Refused r → OfMessage r
+unfolding readQueue all
+queue-refusal s r e =
+    let low : Reason → Bool = λ r. leb (reasonNumber r) 14 in
+    leb-true (reasonNumber r) 14 (arises-in (λ r. low r ≡ true) refl refl queueRefusals (all-true low queueRefusals refl) r (queue-message .gives s r (refused-as (queue s 0) r e)))
+
+-- a record that fits a message: the writer refuses it with the refusal that the reader would give its message
+pub refused-alike : (q : Queue) (r : Reason) → Fits q → judge q ≡ Refused r → readQueue (message q) .verdict ≡ Refused r
+unfolding readQueue
+refused-alike q r k j = ap (λ (f : Found Queue). asReading f .verdict) (queue-message .refuses q r k j)
+
+-- .. which carry nothing
+pub message-needed : (r : Reason) → OfMessage r → needed r ≡ 0
+message-needed Opening h = refl
+message-needed Ends h = refl
+message-needed Malformed h = refl
+message-needed Edition h = refl
+message-needed Kinds h = refl
+message-needed Goal h = refl
+message-needed Shift h = refl
+message-needed Start h = refl
+message-needed Gap h = refl
+message-needed Weight h = refl
+message-needed Window h = refl
+message-needed Jobs h = refl
+message-needed Kind h = refl
+message-needed Trailing h = refl
+message-needed Buffer h = refl
+message-needed (Table n) h = absurd (omega arith)
+message-needed Order h = refl
+message-needed Job h = refl
