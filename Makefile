@@ -68,7 +68,7 @@ target/bin/plan_queue: archive
 	rt check plan_queue
 
 # What the program needs beside the archive is proved with it, side by side; then two parts at a time.
-c-test: ALSO = finishing
+c-test: ALSO = plan_lines
 c-test: archive
 	@$(MAKE) --no-print-directory -j 2 -O ARCHIVE=$(ARCHIVE) run-program run-header run-archive run-example run-text $(TESTS:%=run-%)
 

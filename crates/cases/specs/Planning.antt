@@ -3,7 +3,7 @@ use Prim.Native.Nat.{ℕ, _*_}
 use mathlib.Core.List.{List, [], _∷_, _++_, flatMap}
 use mathlib.Core.Path.{_≡_, refl}
 use lib.ListN.{take, drop, replicate}
-use Rattle.refusal.specs.declared.Reason.the-variants.{Buffer, Table, Order}
+use Rattle.refusal.specs.declared.Reason.the-variants.{Buffer, Table, NoOrder}
 use Rattle.refusal.specs.declared.Answer.{Answer}
 use Rattle.refusal.specs.declared.Answer.the-variants.{Refused}
 use Rattle.refusal.specs.Answers.{answerNumber}
@@ -14,13 +14,13 @@ use Rattle.fields.specs.Messages.{opens}
 use Rattle.queue.specs.Reading.{placed, settings, tables, head, jobs, queue, readQueue}
 use Rattle.plan.specs.Writing.{message}
 use Rattle.sequencing.specs.Lists.{from, sum, weigh, filter, sumBelow}
-use Rattle.sequencing.specs.States.{jobsOf, all, byHandIn}
+use Rattle.sequencing.specs.States.{jobsOf, allLeft, byHandIn}
 use Rattle.sequencing.specs.Least.{least, argLeast}
 use Rattle.sequencing.specs.Recursion.{W, toGo, value, choice, walk, planCost, planKinds, planOrder}
 use Rattle.sequencing.specs.Entries.{size, digits, entryKind, entryLeft}
 use Rattle.sequencing.specs.Counts.{feasibleStates}
-use Rattle.problem.specs.Problem.{allowed}
-use Rattle.planning.specs.Planning.{endingOf, ending, bestPlan, answerOf, bufferOf}
+use Rattle.problem.specs.PlaceRule.{allowed}
+use Rattle.best_order.specs.Planning.{endingOf, ending, bestPlan, answerOf, bufferOf}
 
 -- A, but for its goal, shift, a_1 and a_2
 abbrev likeA : (goal shift a₁ a₂ : ℕ) → List ℕ
@@ -60,10 +60,10 @@ pub record Planning : Type 0 where
   -- D: order 2 1 3
   pub D-plan : planned (likeA 1 1 2 1) 12 10 ≡ (256 * 10, 0x51 ∷ 0x50 ∷ 0x01 ∷ 0x01 ∷ 0x46 ∷ 0x06 ∷ 0x03 ∷ 0x02 ∷ 0x01 ∷ 0x03 ∷ [])
   -- E: 17
-  pub E-none : answered (likeA 1 1 3 1) 12 77 ≡ Refused Order
+  pub E-none : answered (likeA 1 1 3 1) 12 77 ≡ Refused NoOrder
   -- F: cost 100, kept 3, order 1 2 3; with a_2 = 3 too, 17
   pub F-plan : planned (likeA 1 0 1 1) 12 10 ≡ (256 * 10, 0x51 ∷ 0x50 ∷ 0x01 ∷ 0x01 ∷ 0x64 ∷ 0x03 ∷ 0x03 ∷ 0x01 ∷ 0x02 ∷ 0x03 ∷ [])
-  pub F-none : answered (likeA 1 0 1 3) 12 77 ≡ Refused Order
+  pub F-none : answered (likeA 1 0 1 3) 12 77 ≡ Refused NoOrder
   -- G: cost 0, kept 0, N entries
   pub G-plan : planned G 2 7 ≡ (256 * 7, 0x51 ∷ 0x50 ∷ 0x01 ∷ 0x01 ∷ 0x00 ∷ 0x00 ∷ 0x00 ∷ [])
   pub G-one : answered G 1 77 ≡ Refused (Table 2)
@@ -71,7 +71,7 @@ pub record Planning : Type 0 where
   pub H-plan : planned H 8 9 ≡ (256 * 9, 0x51 ∷ 0x50 ∷ 0x01 ∷ 0x01 ∷ 0x00 ∷ 0x04 ∷ 0x02 ∷ 0x02 ∷ 0x01 ∷ [])
 
 pub planning : Planning
-unfolding readQueue queue head settings tables jobs placed opens groupsAt groups encode tabulate flatMap message ending endingOf bestPlan planCost planKinds planOrder feasibleStates value toGo choice walk byHandIn least argLeast W all jobsOf sum weigh filter from sumBelow size digits entryKind entryLeft allowed times
+unfolding readQueue queue head settings tables jobs placed opens groupsAt groups encode tabulate flatMap message ending endingOf bestPlan planCost planKinds planOrder feasibleStates value toGo choice walk byHandIn least argLeast W allLeft jobsOf sum weigh filter from sumBelow size digits entryKind entryLeft allowed times
 planning = record {
   A-plan = refl;
   A-eleven = refl;

@@ -32,7 +32,7 @@ fn print_jobs(queue: Queue, plan: Plan) {
     let mut place: u32 = 0;
     while place < plan.jobs {
         place = place + 1;
-        let line = finishing::line_at(queue, plan, place);
+        let line = plan_lines::line_at(queue, plan, place);
         print_job(line.job);
     }
 }
@@ -72,7 +72,7 @@ fn run(goal: u8, shift: u8) {
     print_number(goal as u64, b"\n");
     match planner::plan(&message, &mut table, &mut buffer) {
         Answer::Refused(why) => print_refusal(why),
-        Answer::Planned(n) => print_plan(&message, finishing::written(&buffer, n)),
+        Answer::Planned(n) => print_plan(&message, plan_lines::written(&buffer, n)),
     }
 }
 

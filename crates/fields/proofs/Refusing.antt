@@ -7,7 +7,7 @@ use mathlib.Core.List.{List, [], _∷_}
 use lib.Dec.{ltb, eqb}
 use lib.ListN.{drop}
 use Rattle.refusal.specs.declared.Reason.{Reason}
-use Rattle.refusal.specs.declared.Reason.the-variants.{Ends, Malformed}
+use Rattle.refusal.specs.declared.Reason.the-variants.{Ends, Groups}
 use Rattle.number.specs.Readers.{Found, found, refused, andThen}
 use Rattle.number.specs.Numbers.{above, last, groupsAt, number}
 use Rattle.number.proofs.Steps.{not-refused}
@@ -31,13 +31,13 @@ module _ (P : Reason → Type 0) where
   gives-then (found a n) next h k = k a n
   gives-then (refused q) next h k = gives-why q (h q refl)
 
-  module _ (ends : P Ends) (malformed : P Malformed) where
+  module _ (ends : P Ends) (malformed : P Groups) where
     gives-last : (first : Bool) (b n : ℕ) → Gives P (last first b n)
     gives-last true b n = gives-found b n
     gives-last false b n = go (eqb b 0)
       where
-        go : (t : Bool) → Gives P (cond t (refused Malformed) (found b n))
-        go true = gives-why Malformed malformed
+        go : (t : Bool) → Gives P (cond t (refused Groups) (found b n))
+        go true = gives-why Groups malformed
         go false = gives-found b n
 
     gives-above : (low : ℕ) (f : Found ℕ) → Gives P f → Gives P (above low f)
@@ -46,7 +46,7 @@ module _ (P : Reason → Type 0) where
 
     gives-groups : (first : Bool) (g p : ℕ) (s : List ℕ) → Gives P (groupsAt first g p s)
     unfolding groupsAt
-    gives-groups first zero p s = gives-why Malformed malformed
+    gives-groups first zero p s = gives-why Groups malformed
     gives-groups first (suc g) p [] = gives-why Ends ends
     gives-groups first (suc g) p (b ∷ s) = go (ltb b 128) (gives-groups false g (p + 1) s)
       where

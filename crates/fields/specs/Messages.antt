@@ -6,7 +6,7 @@ use lib.Dec.{leb, ltb, eqb}
 use lib.ListN.{length, getD}
 use lib.Seq.{sets}
 use Rattle.refusal.specs.declared.Reason.{Reason}
-use Rattle.refusal.specs.declared.Reason.the-variants.{Opening, Trailing, Buffer}
+use Rattle.refusal.specs.declared.Reason.the-variants.{Opening, LeftOver, Buffer}
 use Rattle.refusal.specs.declared.Verdict.{Verdict}
 use Rattle.refusal.specs.declared.Verdict.the-variants.{Accepted, Refused}
 use Rattle.refusal.specs.declared.Written.{Written}
@@ -23,7 +23,7 @@ opening a b s at = cond (opens a b s) (found tt 2) (refused Opening)
 
 -- after the last number: 14 where bytes are left over
 abbrev pub end : Reader (Unit {0})
-end s at = cond (eqb at (length s)) (found tt at) (refused Trailing)
+end s at = cond (eqb at (length s)) (found tt at) (refused LeftOver)
 
 -- one check of a record: its refusal where it fails
 abbrev pub check : Bool → Reason → Verdict

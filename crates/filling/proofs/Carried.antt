@@ -14,8 +14,8 @@ use Rattle.queue.specs.declared.Queue.{Queue}
 use Rattle.queue.specs.Record.{Valid}
 use Rattle.sequencing.specs.Lists.{at, sum}
 use Rattle.sequencing.proofs.Vectors.{weigh-none}
-use Rattle.states.specs.Steps.{Summed}
-use Rattle.windows.specs.Windows.{earliestOf, latestOf}
+use Rattle.jobs_left.specs.Steps.{Summed}
+use Rattle.permitted_places.specs.Windows.{earliestOf, latestOf}
 
 -- the windows of the kinds past the first ones are right
 pub record Windows (q : Queue) (counts jobs left earliest latest : List ℕ) (changed : ℕ) : Type 0 where

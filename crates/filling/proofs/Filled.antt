@@ -18,10 +18,10 @@ use Rattle.number.proofs.Steps.{below-or-not}
 use Rattle.queue.specs.declared.Queue.{Queue}
 use Rattle.queue.specs.Record.{Valid}
 use Rattle.sequencing.specs.Lists.{at, sum, weigh, sumBelow}
-use Rattle.sequencing.specs.States.{all, place}
+use Rattle.sequencing.specs.States.{allLeft, place}
 use Rattle.sequencing.specs.Recursion.{W, value}
 use Rattle.sequencing.specs.Entries.{index, digits, block, entries, entry, entryKind, entryLeft, stored}
-use Rattle.sequencing.specs.Counts.{found, feasibleStates}
+use Rattle.sequencing.specs.Counts.{valued, feasibleStates}
 use Rattle.sequencing.proofs.AllJobs.{length-all, left-small}
 use Rattle.sequencing.proofs.Bounds.{weigh-le, choice-limit, limit-fits}
 use Rattle.sequencing.proofs.Entries.{left-digits}
@@ -30,17 +30,17 @@ use Rattle.sequencing.proofs.Options.{none-some, found-most}
 use Rattle.sequencing.proofs.Radix.{size-pos}
 use Rattle.sequencing.proofs.Vectors.{at-sum}
 use Rattle.sequencing.proofs.Sums.{sum-same, sum-most}
-use Rattle.problem.specs.Problem.{problem}
+use Rattle.problem.specs.OfQueue.{problem}
 use Rattle.problem.proofs.Rule.{jobs-is, limits, few-jobs}
 use Rattle.problem.proofs.Sizes.{entries-fit}
-use Rattle.states.specs.Steps.{next, Summed}
-use Rattle.states.proofs.Stepping.{next-digits, digits-zero}
-use Rattle.setup.specs.Prepared.{Prepared}
-use Rattle.setup.proofs.Preparing.{counts-all}
-use Rattle.table.specs.Entries.{loaded, nextValues, candidate, filling, Loadable, Ready}
-use Rattle.table.proofs.Candidates.{length-next}
-use Rattle.windows.proofs.Windows.{permitted-within}
-use Rattle.windows.specs.Windows.{permittedAt}
+use Rattle.jobs_left.specs.Steps.{next, Summed}
+use Rattle.jobs_left.proofs.Stepping.{next-digits, digits-zero}
+use Rattle.layout.specs.Prepared.{Prepared}
+use Rattle.layout.proofs.Preparing.{counts-all}
+use Rattle.next_states.specs.Entries.{loaded, nextValues, candidate, filling, Loadable, Ready}
+use Rattle.next_states.proofs.Candidates.{length-next}
+use Rattle.permitted_places.proofs.Windows.{permitted-within}
+use Rattle.permitted_places.specs.Windows.{permittedAt}
 use Rattle.filling.specs.declared.Shape.{Shape}
 use Rattle.filling.specs.Staged.{Earlier, Arrays, entryFrom, Staged}
 use Rattle.filling.proofs.Values.{left-at, next-at, candidate-is, candidate-past, filling-is}
@@ -68,27 +68,27 @@ module _ (q : Queue) where
 
   -- the states with index i that are feasible
   abbrev pub countAt : ℕ → ℕ
-  countAt i = sumBelow (λ l. found (value (problem q) (suc l) (digits (all (problem q)) i))) (q .kinds)
+  countAt i = sumBelow (λ l. valued (value (problem q) (suc l) (digits (allLeft (problem q)) i))) (q .kinds)
 
   -- the first i indices are filled
   pub record Filled (table₀ table left : List ℕ) (feasible i : ℕ) : Type 0 where
     pub long : length table ≡ length table₀
     pub left-long : length left ≡ 5
-    pub here : take (q .kinds) left ≡ digits (all (problem q)) i
+    pub here : take (q .kinds) left ≡ digits (allLeft (problem q)) i
     pub upto : i ≤ block (problem q)
     pub done : Earlier (problem q) table i
     pub past : (n : ℕ) → entries (problem q) ≤ n → getD table n 0 ≡ getD table₀ n 0
     pub counted : feasible ≡ sumBelow countAt i
 
 count-most : (q : Queue) (i : ℕ) → countAt q i ≤ q .kinds
-count-most q i = omega (arith, sum-most (λ l. found (value (problem q) (suc l) (digits (all (problem q)) i))) 1 (q .kinds) (λ l _. found-most (value (problem q) (suc l) (digits (all (problem q)) i))))
+count-most q i = omega (arith, sum-most (λ l. valued (value (problem q) (suc l) (digits (allLeft (problem q)) i))) 1 (q .kinds) (λ l _. found-most (value (problem q) (suc l) (digits (allLeft (problem q)) i))))
 
 pub filled-none : (q : Queue) → Valid q → (table : List ℕ) → Filled q table table (replicate 5 0) 0 0
 unfolding sumBelow
 filled-none q v table = record {
   long = refl;
   left-long = refl;
-  here = take-zeros (q .kinds) 5 (v .kinds .1) ∙ ap (λ (n : ℕ). replicate n 0) (sym (length-all (problem q))) ∙ sym (digits-zero (all (problem q)));
+  here = take-zeros (q .kinds) 5 (v .kinds .1) ∙ ap (λ (n : ℕ). replicate n 0) (sym (length-all (problem q))) ∙ sym (digits-zero (allLeft (problem q)));
   upto = omega arith;
   done = λ L j l u h. absurd (omega arith);
   past = λ n h. refl;
@@ -100,10 +100,10 @@ module _ (q : Queue) (v : Valid q) (sized : Sized q) (counts jobs strides : List
   in-block : i < block (problem q)
   in-block = omega (arith, p .size-is)
 
-  k-few : (j : ℕ) → at (digits (all (problem q)) i) j ≤ 60
-  k-few j = omega (arith, at-sum (digits (all (problem q)) i) j, left-small (problem q) (digits (all (problem q)) i) (left-digits (problem q) i), few-jobs q v)
+  k-few : (j : ℕ) → at (digits (allLeft (problem q)) i) j ≤ 60
+  k-few j = omega (arith, at-sum (digits (allLeft (problem q)) i) j, left-small (problem q) (digits (allLeft (problem q)) i) (left-digits (problem q) i), few-jobs q v)
 
-  pub weight-is : cond (eqb (q .goal) 1) 1 (weigh (λ j. getD (q .weights) (j - 1) 0) (take (q .kinds) left)) ≡ W (problem q) (digits (all (problem q)) i)
+  pub weight-is : cond (eqb (q .goal) 1) 1 (weigh (λ j. getD (q .weights) (j - 1) 0) (take (q .kinds) left)) ≡ W (problem q) (digits (allLeft (problem q)) i)
   unfolding W
   weight-is = rw (w .here)
 
@@ -118,21 +118,21 @@ module _ (q : Queue) (v : Valid q) (sized : Sized q) (counts jobs strides : List
         omega (arith, next-at q v counts jobs strides n p left i (w .here) in-block x a b (rw (left-at q v counts jobs strides n p left i (w .here) in-block x a b) at c));
   }
 
-  pub ready : (L : ℕ) → L ≤ q .kinds → Ready (nextValues table left strides (q .kinds) n i) (q .gaps) L (W (problem q) (digits (all (problem q)) i))
+  pub ready : (L : ℕ) → L ≤ q .kinds → Ready (nextValues table left strides (q .kinds) n i) (q .gaps) L (W (problem q) (digits (allLeft (problem q)) i))
   ready L u = record {
     row-in = omega (arith, v .kinds);
     next-long = length-next table left strides (q .kinds) n i;
     gaps-long = sized .gaps;
     small = λ x d a b e. elim (below-or-not (q .kinds) x) [
-      | inl b′ ↦ absurd (none-some (W (problem q) (digits (all (problem q)) i) * getD (q .gaps) (5 * L + (x - 1)) 0 + d) (sym (candidate-past q v counts jobs strides n p left i (w .here) in-block table (w .done) L x b′ b) ∙ found-there x d e))
+      | inl b′ ↦ absurd (none-some (W (problem q) (digits (allLeft (problem q)) i) * getD (q .gaps) (5 * L + (x - 1)) 0 + d) (sym (candidate-past q v counts jobs strides n p left i (w .here) in-block table (w .done) L x b′ b) ∙ found-there x d e))
       | inr b′ ↦ (let s = candidate-is q v counts jobs strides n p left i (w .here) in-block table (w .done) L x a b′ in
-          omega (arith, choice-limit (problem q) (limits q v) (few-jobs q v) L (digits (all (problem q)) i) x _ u (left-digits (problem q) i) (sym s ∙ found-there x d e), limit-fits))
+          omega (arith, choice-limit (problem q) (limits q v) (few-jobs q v) L (digits (allLeft (problem q)) i) x _ u (left-digits (problem q) i) (sym s ∙ found-there x d e), limit-fits))
     ];
   }
     where
       found-there : (x d : ℕ) → loaded (at (nextValues table left strides (q .kinds) n i) x) ≡ some d
-          → candidate (nextValues table left strides (q .kinds) n i) (q .gaps) L (W (problem q) (digits (all (problem q)) i)) x
-          ≡ some (W (problem q) (digits (all (problem q)) i) * getD (q .gaps) (5 * L + (x - 1)) 0 + d)
+          → candidate (nextValues table left strides (q .kinds) n i) (q .gaps) L (W (problem q) (digits (allLeft (problem q)) i)) x
+          ≡ some (W (problem q) (digits (allLeft (problem q)) i) * getD (q .gaps) (5 * L + (x - 1)) 0 + d)
       found-there x d e = rw e
 
   pub left-few : (j : ℕ) → j < q .kinds → getD left j 0 ≤ 60
@@ -155,27 +155,27 @@ module _ (q : Queue) (v : Valid q) (sized : Sized q) (counts jobs strides : List
   pub sums-fit : (remaining weight : ℕ) → Summed (q .weights) (take (q .kinds) left) remaining weight → (remaining < 2 ^ 31) × (weight < 2 ^ 63)
   sums-fit remaining weight summed =
       let k = take (q .kinds) left in
-      let few : sum k ≤ 60 = rw (w .here) (omega (arith, left-small (problem q) (digits (all (problem q)) i) (left-digits (problem q) i), few-jobs q v)) in
+      let few : sum k ≤ 60 = rw (w .here) (omega (arith, left-small (problem q) (digits (allLeft (problem q)) i) (left-digits (problem q) i), few-jobs q v)) in
       let long = length-take-le (q .kinds) left (omega (arith, w .left-long, v .kinds)) in
       let most = weigh-le (λ j. getD (q .weights) (j - 1) 0) 1000 k (λ j l u. v .weights j l (omega (arith, long))) in
       (omega (arith, summed .jobs), omega (arith, summed .pupils, most))
 
   -- with the windows of all kinds right, and the sums of k
   module _ (earliest latest : List ℕ) (right : Windows q counts jobs left earliest latest 0) (remaining weight : ℕ) (summed : Summed (q .weights) (take (q .kinds) left) remaining weight) where
-    stage-weight : cond (eqb (q .goal) 1) 1 weight ≡ W (problem q) (digits (all (problem q)) i)
+    stage-weight : cond (eqb (q .goal) 1) 1 weight ≡ W (problem q) (digits (allLeft (problem q)) i)
     stage-weight = rw (summed .pupils) weight-is
 
-    jobs-left : remaining ≡ sum (digits (all (problem q)) i)
+    jobs-left : remaining ≡ sum (digits (allLeft (problem q)) i)
     jobs-left = summed .jobs ∙ ap sum (w .here)
 
     -- what an entry gets is its state's value
-    entry-is-value : (L : ℕ) → 1 ≤ L → L ≤ q .kinds → entryFrom table (arraysOf q strides left earliest latest) (shapeOf q n i remaining weight) L ≡ value (problem q) L (digits (all (problem q)) i)
+    entry-is-value : (L : ℕ) → 1 ≤ L → L ≤ q .kinds → entryFrom table (arraysOf q strides left earliest latest) (shapeOf q n i remaining weight) L ≡ value (problem q) L (digits (allLeft (problem q)) i)
     unfolding entryFrom
     entry-is-value L l u =
         let next = nextValues table left strides (q .kinds) n i in
         let made : ℕ → ℕ → ℕ → Option ℕ = λ weight remaining place.
         filling next (q .gaps) weight remaining (permittedAt left counts jobs (q .«first_places») (q .«last_places») place (q .«max_shift») L) L in
-        let there : q .jobs - remaining ≡ place (problem q) (digits (all (problem q)) i) = omega (arith, jobs-is q, jobs-left) in
+        let there : q .jobs - remaining ≡ place (problem q) (digits (allLeft (problem q)) i) = omega (arith, jobs-is q, jobs-left) in
         rw (right .firsts L l u, right .lasts L l u, permitted-within left counts jobs (q .«first_places») (q .«last_places») (q .jobs - remaining) (q .«max_shift») L)
         ((λ j. made (stage-weight j) (jobs-left j) (there j)) ∙ filling-is q v counts jobs strides n p left i (w .here) in-block table (w .done) L l u)
 
@@ -186,15 +186,15 @@ module _ (q : Queue) (v : Valid q) (sized : Sized q) (counts jobs strides : List
       ready = λ L l u. rw stage-weight (ready L u);
       earliest-long = right .earliest-long;
       latest-long = right .latest-long;
-      all-left = omega (arith, jobs-left, left-small (problem q) (digits (all (problem q)) i) (left-digits (problem q) i), jobs-is q);
+      all-left = omega (arith, jobs-left, left-small (problem q) (digits (allLeft (problem q)) i) (left-digits (problem q) i), jobs-is q);
     }
 
     module _ (table′ left′ : List ℕ) (more : ℕ) (long : length table′ ≡ length table)
         (stores : (L : ℕ) → 1 ≤ L → L ≤ q .kinds → getD table′ ((L - 1) * n + i) 0 ≡ stored (entryFrom table (arraysOf q strides left earliest latest) (shapeOf q n i remaining weight) L))
         (others : (m : ℕ) → ((L : ℕ) → 1 ≤ L → L ≤ q .kinds → m ≡ (L - 1) * n + i → ⊥) → getD table′ m 0 ≡ getD table m 0)
-        (many : more ≡ sumBelow (λ l. found (entryFrom table (arraysOf q strides left earliest latest) (shapeOf q n i remaining weight) (l + 1))) (q .kinds)) where
+        (many : more ≡ sumBelow (λ l. valued (entryFrom table (arraysOf q strides left earliest latest) (shapeOf q n i remaining weight) (l + 1))) (q .kinds)) where
       more-is : more ≡ countAt q i
-      more-is = many ∙ sum-same _ _ (q .kinds) (λ l u. ap found (entry-is-value (l + 1) (omega arith) (omega arith) ∙ ap (λ (m : ℕ). value (problem q) m (digits (all (problem q)) i)) (add-one l)))
+      more-is = many ∙ sum-same _ _ (q .kinds) (λ l u. ap valued (entry-is-value (l + 1) (omega arith) (omega arith) ∙ ap (λ (m : ℕ). value (problem q) m (digits (allLeft (problem q)) i)) (add-one l)))
 
       stored-so-far : Earlier (problem q) table′ (i + 1)
       stored-so-far L j l u b = elim (eq-or-lt-of-le {n = j} {m = i} (omega arith)) [
@@ -208,7 +208,7 @@ module _ (q : Queue) (v : Valid q) (sized : Sized q) (counts jobs strides : List
       filled-more left-long stepped = record {
         long = long ∙ w .long;
         left-long = left-long;
-        here = stepped ∙ rw (w .here, counts-all q v counts jobs (p .listed) (p .counts-long), add-one i) (next-digits (all (problem q)) i);
+        here = stepped ∙ rw (w .here, counts-all q v counts jobs (p .listed) (p .counts-long), add-one i) (next-digits (allLeft (problem q)) i);
         upto = omega (arith, in-block);
         done = stored-so-far;
         past = λ m b. others m (λ L l u e. omega (arith, below L l u)) ∙ w .past m b;
@@ -236,12 +236,12 @@ module _ (q : Queue) (v : Valid q) (n : ℕ) (size-is : n ≡ block (problem q))
   pub filled-table : (m : ℕ) → getD table m 0 ≡ cond (ltb m (entries (problem q))) (stored (entry (problem q) m)) (getD table₀ m 0)
   unfolding entryKind entryLeft
   filled-table m = elim (below-or-not m (entries (problem q))) [
-    | inl b ↦ rw (lt-ltb m (entries (problem q)) b) (ap (λ (k : ℕ). getD table k 0) (sym (position b)) ∙ w .done (suc (m / block (problem q))) (m % block (problem q)) (omega arith) (high b) (rw all-filled (mod-lt m (size-pos (all (problem q))))))
+    | inl b ↦ rw (lt-ltb m (entries (problem q)) b) (ap (λ (k : ℕ). getD table k 0) (sym (position b)) ∙ w .done (suc (m / block (problem q))) (m % block (problem q)) (omega arith) (high b) (rw all-filled (mod-lt m (size-pos (allLeft (problem q))))))
     | inr b ↦ rw (le-ltb m (entries (problem q)) b) (w .past m b)
   ]
     where
       high : m < entries (problem q) → suc (m / block (problem q)) ≤ q .kinds
-      high b = div-lt-iff-lt-mul {k = block (problem q)} {x = m} {y = q .kinds} (size-pos (all (problem q))) .1 b
+      high b = div-lt-iff-lt-mul {k = block (problem q)} {x = m} {y = q .kinds} (size-pos (allLeft (problem q))) .1 b
 
       position : m < entries (problem q) → (suc (m / block (problem q)) - 1) * block (problem q) + m % block (problem q) ≡ m
       position b = let e : suc (m / block (problem q)) - 1 ≡ m / block (problem q) = omega arith in rw e (div-add-mod' m (block (problem q)))

@@ -3,7 +3,7 @@
 use Prim.Native.Nat.{ℕ}
 use mathlib.Core.List.{List}
 use mathlib.Core.Path.{_≡_}
-use Rattle.table.specs.Entries.{filling}
+use Rattle.next_states.specs.Entries.{filling}
 use Rattle.filling.specs.declared.Shape.{Shape}
 use Rattle.filling.specs.Staged.{Arrays, weightOf, nextOf, inWindow, entryFrom}
 

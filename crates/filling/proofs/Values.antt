@@ -16,7 +16,7 @@ use Rattle.queue.specs.declared.Queue.{Queue}
 use Rattle.queue.specs.Record.{kind, Valid}
 use Rattle.sequencing.specs.Lists.{at, sum, upto}
 use Rattle.sequencing.specs.Problem.{T, kind as kindIn}
-use Rattle.sequencing.specs.States.{complete, jobsOf, K, all, place}
+use Rattle.sequencing.specs.States.{complete, jobsOf, K, allLeft, place}
 use Rattle.sequencing.specs.Least.{only, lower, least, argLeast}
 use Rattle.sequencing.specs.Recursion.{W, permit, value, choice}
 use Rattle.sequencing.specs.Entries.{index, digits, block, stored}
@@ -27,15 +27,16 @@ use Rattle.sequencing.proofs.Equations.{value-none-left, value-some-left}
 use Rattle.sequencing.proofs.JobsLeft.{next-pair}
 use Rattle.sequencing.proofs.Radix.{digits-index, index-digits, index-complete}
 use Rattle.sequencing.proofs.Vectors.{at-in}
-use Rattle.problem.specs.Problem.{allowed, problem}
+use Rattle.problem.specs.PlaceRule.{allowed}
+use Rattle.problem.specs.OfQueue.{problem}
 use Rattle.problem.proofs.Rule.{kind-is}
 use Rattle.problem.proofs.Queues.{value-fits}
 use Rattle.problem.proofs.Sizes.{kind-few}
-use Rattle.setup.specs.Prepared.{Prepared}
-use Rattle.table.specs.Entries.{loaded, nextValues, candidate, filling}
-use Rattle.table.proofs.Stored.{fits, loaded-stored, least-past, arg-past}
-use Rattle.table.proofs.Candidates.{loaded-next}
-use Rattle.windows.specs.Windows.{permittedAt}
+use Rattle.layout.specs.Prepared.{Prepared}
+use Rattle.next_states.specs.Entries.{loaded, nextValues, candidate, filling}
+use Rattle.next_states.proofs.Stored.{fits, loaded-stored, least-past, arg-past}
+use Rattle.next_states.proofs.Candidates.{loaded-next}
+use Rattle.permitted_places.specs.Windows.{permittedAt}
 use Rattle.filling.specs.Staged.{Earlier}
 
 -- ---- the least of what agrees
@@ -74,9 +75,9 @@ module _ (q : Queue) (v : Valid q) where
       sym (kind-is q i (b .0) (b .1)) ∙ sym e
 
   module _ (counts jobs strides : List ℕ) (size : ℕ) (p : Prepared (problem q) counts jobs strides size) (left : List ℕ) (i : ℕ)
-      (here : take (q .kinds) left ≡ digits (all (problem q)) i) (in-block : i < block (problem q)) where
+      (here : take (q .kinds) left ≡ digits (allLeft (problem q)) i) (in-block : i < block (problem q)) where
     abbrev k : List ℕ
-    k = digits (all (problem q)) i
+    k = digits (allLeft (problem q)) i
 
     pub left-at : (x : ℕ) → 1 ≤ x → x ≤ q .kinds → at left x ≡ at k x
     left-at x l u = sym (at-take (q .kinds) left x l u) ∙ ap (λ (xs : List ℕ). at xs x) here
@@ -96,13 +97,13 @@ module _ (q : Queue) (v : Valid q) where
         ])
 
     -- the next state by way of x stands x's stride lower
-    pub next-at : (x : ℕ) → 1 ≤ x → x ≤ q .kinds → 0 < at k x → index (all (problem q)) (complete k x) + at strides x ≡ i
+    pub next-at : (x : ℕ) → 1 ≤ x → x ≤ q .kinds → 0 < at k x → index (allLeft (problem q)) (complete k x) + at strides x ≡ i
     next-at x l u h =
         let s = left-digits (problem q) i in
-        omega (arith, p .strides-are x l (omega (arith, v .kinds)), index-complete (all (problem q)) k x (s .long ∙ sym (length-all (problem q))) h, index-digits (all (problem q)) i in-block)
+        omega (arith, p .strides-are x l (omega (arith, v .kinds)), index-complete (allLeft (problem q)) k x (s .long ∙ sym (length-all (problem q))) h, index-digits (allLeft (problem q)) i in-block)
 
     next-pos : (x : ℕ) → 1 ≤ x → x ≤ q .kinds → 0 < at k x
-        → (x - 1) * size + i - at strides x ≡ (x - 1) * block (problem q) + index (all (problem q)) (complete k x)
+        → (x - 1) * size + i - at strides x ≡ (x - 1) * block (problem q) + index (allLeft (problem q)) (complete k x)
     next-pos x l u h = rw (p .size-is) (omega (arith, next-at x l u h))
 
     module _ (table : List ℕ) (before : Earlier (problem q) table i) where
@@ -115,11 +116,11 @@ module _ (q : Queue) (v : Valid q) where
           let P = problem q in
           let s = left-digits P i in
           let t = next-pair P k x s h in
-          let j = index (all P) (complete k x) in
+          let j = index (allLeft P) (complete k x) in
           let pos = next-pos x l u h in
-          let e : digits (all P) j ≡ complete k x = digits-index (all P) (complete k x) (t .left .long ∙ sym (length-all P)) (below-all P (complete k x) (t .left)) in
+          let e : digits (allLeft P) j ≡ complete k x = digits-index (allLeft P) (complete k x) (t .left .long ∙ sym (length-all P)) (below-all P (complete k x) (t .left)) in
           let entry : getD table ((x - 1) * block P + j) 0 ≡ stored (value P x (complete k x)) =
-          before x j l u (omega (arith, next-earlier P k x s h, index-digits (all P) i in-block)) ∙ ap (λ (k′ : List ℕ). stored (value P x k′)) e in
+          before x j l u (omega (arith, next-earlier P k x s h, index-digits (allLeft P) i in-block)) ∙ ap (λ (k′ : List ℕ). stored (value P x k′)) e in
           rw (pos, entry) (loaded-stored (value P x (complete k x)) (fits (value P x (complete k x)) (λ c f. value-fits q v x (complete k x) c t f .2)))
 
       module _ (L : ℕ) where

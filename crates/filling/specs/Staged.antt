@@ -8,15 +8,15 @@ use mathlib.Core.List.{List}
 use lib.ListN.{length, getD}
 use Rattle.sequencing.specs.Lists.{at}
 use Rattle.sequencing.specs.Problem.{Problem}
-use Rattle.sequencing.specs.States.{all}
+use Rattle.sequencing.specs.States.{allLeft}
 use Rattle.sequencing.specs.Recursion.{value}
 use Rattle.sequencing.specs.Entries.{digits, block, stored}
-use Rattle.table.specs.Entries.{nextValues, filling, Loadable, Ready}
+use Rattle.next_states.specs.Entries.{nextValues, filling, Loadable, Ready}
 use Rattle.filling.specs.declared.Shape.{Shape}
 
 -- the entries of the first i indices are filled
 abbrev pub Earlier : Problem → List ℕ → ℕ → Type 0
-Earlier P table i = (L j : ℕ) → 1 ≤ L → L ≤ P .N → j < i → getD table ((L - 1) * block P + j) 0 ≡ stored (value P L (digits (all P) j))
+Earlier P table i = (L j : ℕ) → 1 ≤ L → L ≤ P .N → j < i → getD table ((L - 1) * block P + j) 0 ≡ stored (value P L (digits (allLeft P) j))
 
 -- the arrays and numbers that an entry is computed from
 pub record Arrays : Type 0 where

@@ -1,8 +1,8 @@
 // Filling the table of a queue: every state's value, and how many states are feasible.
+use jobs_left::Step;
+use layout::Setup;
 use queue::Queue;
-use setup::Setup;
 use stages::Stage;
-use states::Step;
 ghost use mathlib.Core.Path.{_≡_};
 ghost use mathlib.Core.Bool.{cond};
 ghost use Prim.Native.Nat.{ℕ, _+_, _-_, _*_, _≤_, _<_};
@@ -11,9 +11,9 @@ ghost use lib.ListN.{length, getD};
 ghost use Rattle.queue.specs.Record.{Valid};
 ghost use Rattle.sequencing.specs.Lists.{sumBelow};
 ghost use Rattle.sequencing.specs.Entries.{entries, entry, stored};
-ghost use Rattle.sequencing.specs.Counts.{found, feasibleStates};
-ghost use Rattle.problem.specs.Problem.{problem};
-ghost use Rattle.setup.specs.Prepared.{Prepared};
+ghost use Rattle.sequencing.specs.Counts.{valued, feasibleStates};
+ghost use Rattle.problem.specs.OfQueue.{problem};
+ghost use Rattle.layout.specs.Prepared.{Prepared};
 ghost use Rattle.filling.specs.Staged.{entryFrom, Staged};
 
 // The numbers of a queue and of one k.
@@ -43,12 +43,12 @@ fn fill_index(
     ensures { λ _. ⌜ length (now (table .exit)) ≡ length (now (table .entry)) ⌝ }
     ensures { λ _. ⌜ ((L : ℕ) → 1 ≤ L → L ≤ shape .kinds → getD (now (table .exit)) ((L - 1) * shape .block + shape .index) 0 ≡ stored (entryFrom (now (table .entry)) (record { left = now (left .entry); earliest = now (earliest .entry); latest = now (latest .entry); strides = now (strides .entry); gaps = now (gaps .entry) }) shape L)) ⌝ }
     ensures { λ _. ⌜ ((n : ℕ) → ((L : ℕ) → 1 ≤ L → L ≤ shape .kinds → n ≡ (L - 1) * shape .block + shape .index → ⊥) → getD (now (table .exit)) n 0 ≡ getD (now (table .entry)) n 0) ⌝ }
-    ensures { λ r. ⌜ r ≡ sumBelow (λ l. found (entryFrom (now (table .entry)) (record { left = now (left .entry); earliest = now (earliest .entry); latest = now (latest .entry); strides = now (strides .entry); gaps = now (gaps .entry) }) shape (l + 1))) (shape .kinds) ⌝ }
+    ensures { λ r. ⌜ r ≡ sumBelow (λ l. valued (entryFrom (now (table .entry)) (record { left = now (left .entry); earliest = now (earliest .entry); latest = now (latest .entry); strides = now (strides .entry); gaps = now (gaps .entry) }) shape (l + 1))) (shape .kinds) ⌝ }
 {
     let kinds = shape.kinds;
-    let weight = states::stage_weight(shape.goal, shape.weight);
+    let weight = jobs_left::stage_weight(shape.goal, shape.weight);
     let place = shape.jobs - shape.remaining;
-    let next = table::load_next(table, left, strides, kinds, shape.block, shape.index);
+    let next = next_states::load_next(table, left, strides, kinds, shape.block, shape.index);
     stages::fill_states(
         table,
         &next,
@@ -116,7 +116,7 @@ pub fn fill(queue: Queue, setup: Setup, table: &mut [u64]) -> u64
     let mut feasible: u64 = 0;
     let mut index: usize = 0;
     while index < block {
-        windows::set_windows(
+        permitted_places::set_windows(
             &left,
             &counts,
             &jobs,
@@ -129,7 +129,7 @@ pub fn fill(queue: Queue, setup: Setup, table: &mut [u64]) -> u64
         );
         let shape = shape_at(kinds, block, index, queue.goal, queue.jobs, step);
         feasible = feasible + fill_index(table, &left, &earliest, &latest, &strides, &gaps, shape);
-        step = states::step_left(&mut left, &counts, &weights, kinds, step);
+        step = jobs_left::step_left(&mut left, &counts, &weights, kinds, step);
         index = index + 1;
     }
     feasible

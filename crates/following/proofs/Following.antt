@@ -12,7 +12,7 @@ use Rattle.queue.specs.declared.Queue.{Queue}
 use Rattle.queue.specs.Record.{Valid}
 use Rattle.sequencing.specs.Lists.{at, sum}
 use Rattle.sequencing.specs.Problem.{Problem}
-use Rattle.sequencing.specs.States.{complete, K, all, job, byHandIn}
+use Rattle.sequencing.specs.States.{complete, K, allLeft, job, byHandIn}
 use Rattle.sequencing.specs.Least.{least, argLeast}
 use Rattle.sequencing.specs.Recursion.{costToGo, choice, walk, planCost, planKinds, planOrder}
 use Rattle.sequencing.specs.Entries.{index, digits, block}
@@ -25,13 +25,13 @@ use Rattle.sequencing.proofs.Least.{smallest}
 use Rattle.sequencing.proofs.Radix.{digits-index}
 use Rattle.sequencing.proofs.Recursion.{value-some, choice-some}
 use Rattle.sequencing.proofs.Vectors.{complete-sum, at-complete}
-use Rattle.problem.specs.Problem.{problem}
+use Rattle.problem.specs.OfQueue.{problem}
 use Rattle.problem.proofs.Rule.{jobs-is, proper}
 use Rattle.problem.proofs.Sizes.{kind-few}
-use Rattle.setup.specs.Prepared.{Prepared}
-use Rattle.setup.proofs.Preparing.{counts-few}
+use Rattle.layout.specs.Prepared.{Prepared}
+use Rattle.layout.proofs.Preparing.{counts-few}
 use Rattle.filling.proofs.Values.{at-minus, left-at, next-at}
-use Rattle.solving.proofs.Start.{last-in, last-is, start-here}
+use Rattle.solver.proofs.Start.{last-in, last-is, start-here}
 
 -- what is found from (L; k) on with some jobs left: the kind that the recursion takes next, and what is found from there
 pub record Next (P : Problem) (L : ℕ) (k : List ℕ) (x : ℕ) : Type 0 where
@@ -64,12 +64,12 @@ next-is P L k c x s e is =
 -- what stands in the order, with what is still to be followed behind it, is the plan's order
 pub record On (q : Queue) (order left : List ℕ) (row i place : ℕ) : Type 0 where
   pub left-long : length left ≡ 5
-  pub here : take (q .kinds) left ≡ digits (all (problem q)) i
+  pub here : take (q .kinds) left ≡ digits (allLeft (problem q)) i
   pub within : i < block (problem q)
   pub row-in : row ≤ q .kinds
-  pub found : (c : ℕ) × (costToGo (problem q) row (digits (all (problem q)) i) ≡ some c)
-  pub gone : sum (digits (all (problem q)) i) + place ≡ q .jobs
-  pub rest : sets order place (byHandIn (problem q) (digits (all (problem q)) i) (walk (problem q) (sum (digits (all (problem q)) i)) row (digits (all (problem q)) i))) ≡ filled 60 (planOrder (problem q))
+  pub found : (c : ℕ) × (costToGo (problem q) row (digits (allLeft (problem q)) i) ≡ some c)
+  pub gone : sum (digits (allLeft (problem q)) i) + place ≡ q .jobs
+  pub rest : sets order place (byHandIn (problem q) (digits (allLeft (problem q)) i) (walk (problem q) (sum (digits (allLeft (problem q)) i)) row (digits (allLeft (problem q)) i))) ≡ filled 60 (planOrder (problem q))
 
 -- what taking a job of kind x may rely on, and what is followed then
 pub record Taking (q : Queue) (counts jobs strides order left : List ℕ) (i place x : ℕ) : Type 0 where
@@ -107,7 +107,7 @@ module _ (q : Queue) (v : Valid q) (counts jobs strides : List ℕ) (n : ℕ) (p
 
   module _ (order left : List ℕ) (row i place : ℕ) (o : On q order left row i place) where
     abbrev k : List ℕ
-    k = digits (all (problem q)) i
+    k = digits (allLeft (problem q)) i
 
     pub on-end : q .jobs ≤ place → order ≡ filled 60 (planOrder (problem q))
     unfolding walk byHandIn
@@ -123,7 +123,7 @@ module _ (q : Queue) (v : Valid q) (counts jobs strides : List ℕ) (n : ℕ) (p
       there : getD left (x - 1) 0 ≡ at k x
       there = sym (at-minus left x (next .low)) ∙ left-at q v counts jobs strides n p left i (o .here) (o .within) x (next .low) (next .high)
 
-      lower-index : index (all (problem q)) (complete k x) + getD strides (x - 1) 0 ≡ i
+      lower-index : index (allLeft (problem q)) (complete k x) + getD strides (x - 1) 0 ≡ i
       lower-index = omega (arith, at-minus strides x (next .low), next-at q v counts jobs strides n p left i (o .here) (o .within) x (next .low) (next .high) (next .some-left))
 
       counted : getD counts (x - 1) 0 ≡ K (problem q) x
@@ -137,8 +137,8 @@ module _ (q : Queue) (v : Valid q) (counts jobs strides : List ℕ) (n : ℕ) (p
           let s = left-digits P i in
           let t = complete-left P k x s (next .some-left) in
           let fewer : suc (at k′ x) ≡ at k x = omega (arith, at-complete k x x (next .some-left), one-self x) in
-          let e : i - getD strides (x - 1) 0 ≡ index (all P) k′ = omega (arith, lower-index) in
-          let d : digits (all P) (i - getD strides (x - 1) 0) ≡ k′ = ap (digits (all P)) e ∙ digits-index (all P) k′ (t .long ∙ sym (length-all P)) (below-all P k′ t) in
+          let e : i - getD strides (x - 1) 0 ≡ index (allLeft P) k′ = omega (arith, lower-index) in
+          let d : digits (allLeft P) (i - getD strides (x - 1) 0) ≡ k′ = ap (digits (allLeft P)) e ∙ digits-index (allLeft P) k′ (t .long ∙ sym (length-all P)) (below-all P k′ t) in
           let m : ℕ = K P x - at k′ x in
           let nth : getD counts (x - 1) 0 - getD left (x - 1) 0 ≡ m - 1 = omega (arith, there, counted, s .within x, fewer) in
           let taken : j ≡ job P x k′ = ej ∙ ap (λ (a : ℕ). getD jobs (60 * (x - 1) + a) 0) nth

@@ -1,6 +1,6 @@
 // Following a filled table: the order that reaches the best cost.
+use layout::Setup;
 use queue::Queue;
-use setup::Setup;
 ghost use mathlib.Core.Path.{_≡_};
 ghost use mathlib.Core.Option.{none};
 ghost use Prim.Native.Nat.{_+_, _-_, _*_, _≤_, _<_};
@@ -9,8 +9,8 @@ ghost use Rattle.queue.specs.Record.{Valid};
 ghost use Rattle.fields.specs.Lists.{filled};
 ghost use Rattle.sequencing.specs.Recursion.{planCost, planOrder};
 ghost use Rattle.sequencing.specs.Entries.{block, entries};
-ghost use Rattle.problem.specs.Problem.{problem};
-ghost use Rattle.setup.specs.Prepared.{Prepared};
+ghost use Rattle.problem.specs.OfQueue.{problem};
+ghost use Rattle.layout.specs.Prepared.{Prepared};
 ghost use Rattle.filling.specs.Staged.{Earlier};
 
 // The next job of a kind (from 0) by hand-in; one fewer is left.
@@ -39,7 +39,7 @@ pub fn follow(queue: Queue, setup: Setup, table: &[u64]) -> [u32; 60]
     let mut index = setup.block - 1;
     let mut place: usize = 0;
     while place < total {
-        let best = solving::best_next(queue, setup, table, &left, row, index);
+        let best = solver::best_next(queue, setup, table, &left, row, index);
         row = best.kind;
         order[place] = take_job(&mut left, &counts, &jobs, row - 1);
         index = index - strides[row - 1];

@@ -7,7 +7,7 @@ use mathlib.Core.List.{List, [], _∷_, _++_}
 use native.Mathlib.Omega.{arith}
 use lib.ListN.{length, take, drop}
 use Rattle.refusal.specs.declared.Reason.{Reason}
-use Rattle.refusal.specs.declared.Reason.the-variants.{Ends, Malformed}
+use Rattle.refusal.specs.declared.Reason.the-variants.{Ends, Groups}
 use Rattle.refusal.specs.declared.Verdict.{Verdict}
 use Rattle.refusal.specs.declared.Verdict.the-variants.{Accepted, Refused}
 use Rattle.number.specs.Readers.{found, refused, Reader}
@@ -16,7 +16,7 @@ use Rattle.fields.proofs.Refusing.{Gives}
 
 -- a refusal that steps with these refusals of their own can give; any number can give 2 and 3
 abbrev pub Arises : List Reason → Reason → Type 0
-Arises [] r = (r ≡ Ends) ⊎ (r ≡ Malformed)
+Arises [] r = (r ≡ Ends) ⊎ (r ≡ Groups)
 Arises (why ∷ whys) r = (r ≡ why) ⊎ Arises whys r
 
 -- A part of a message, in both directions. What it says may depend on numbers read before it: `Given` is what is known of those.
@@ -41,7 +41,7 @@ pub record Format (A Given : Type 0) (wide far : ℕ) (whys : List Reason) : Typ
 
 -- ---- refusals
 
-of-number : (whys : List Reason) (r : Reason) → (r ≡ Ends) ⊎ (r ≡ Malformed) → Arises whys r
+of-number : (whys : List Reason) (r : Reason) → (r ≡ Ends) ⊎ (r ≡ Groups) → Arises whys r
 of-number [] r h = h
 of-number (why ∷ whys) r h = inr (of-number whys r h)
 
@@ -55,7 +55,7 @@ arises-right [] ys r h = h
 arises-right (x ∷ xs) ys r h = inr (arises-right xs ys r h)
 
 -- what holds of 2, 3 and each of a list's refusals
-pub arises-in : (P : Reason → Type 0) → P Ends → P Malformed → (whys : List Reason) → All P whys → (r : Reason) → Arises whys r → P r
+pub arises-in : (P : Reason → Type 0) → P Ends → P Groups → (whys : List Reason) → All P whys → (r : Reason) → Arises whys r → P r
 arises-in P e m [] h r (inl p) = rw p e
 arises-in P e m [] h r (inr p) = rw p m
 arises-in P e m (why ∷ whys) h r (inl p) = rw p (h .0)

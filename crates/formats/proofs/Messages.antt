@@ -11,7 +11,7 @@ use lib.ListN.{length, take, drop, length-take}
 use lib.Seq.{getD-take, drop-length}
 use borrow.Author.Tests.{lt-ltb, le-ltb, ne-eqb, eq-eqb, eqb-true}
 use Rattle.refusal.specs.declared.Reason.{Reason}
-use Rattle.refusal.specs.declared.Reason.the-variants.{Opening, Trailing}
+use Rattle.refusal.specs.declared.Reason.the-variants.{Opening, LeftOver}
 use Rattle.refusal.specs.declared.Verdict.{Verdict}
 use Rattle.refusal.specs.declared.Verdict.the-variants.{Accepted, Refused}
 use Rattle.number.specs.Readers.{found, refused, Reader, andThen, _>>=_, _>>_, give}
@@ -72,7 +72,7 @@ module _ {R A : Type 0} {wide far : ℕ} {whys : List Reason} (a b : ℕ) (F : F
       let (v, k, e₂, p₂) = went-on (end s j) _ q n p₁ in
       let o = passed (opens a b s) (found tt 2) Opening u i e₀ in
       let two : 2 ≡ i = found-next tt u 2 i (o .1) in
-      let last = eqb-true j (length s) (passed (eqb j (length s)) (found tt j) Trailing v k e₂ .0) in
+      let last = eqb-true j (length s) (passed (eqb j (length s)) (found tt j) LeftOver v k e₂ .0) in
       let r = F .reads tt s i parts j y e₁ in
       let none : drop j s ≡ [] = ap (λ (k : ℕ). drop k s) last ∙ drop-length s in
       let rest : drop 2 s ≡ F .write parts = ap (λ (k : ℕ). drop k s) two ∙ r .0 .here ∙ ap (λ (l : List ℕ). F .write parts ++ l) none ∙ append-nil (F .write parts) in
@@ -83,14 +83,14 @@ module _ {R A : Type 0} {wide far : ℕ} {whys : List Reason} (a b : ℕ) (F : F
       and-same (opening a b (take m s) 0) (opening a b s 0) _ _ (ap (λ (t : Bool). cond t (found tt 2) (refused Opening)) (opens-same a b s m (omega arith)))
       λ u i e₀. let two : 2 ≡ i = found-next tt u 2 i (passed (opens a b s) (found tt 2) Opening u i e₀ .1) in
       and-same (F .read (take m s) i) (F .read s i) _ _ (F .same tt s i m y (omega arith))
-      λ parts j e₁. ap (λ (t : Bool). andThen (cond t (found tt j) (refused Trailing)) (λ _ k. found (make parts) k)) (end-same s j m (omega (arith, ends F tt s i parts j y e₁)))
+      λ parts j e₁. ap (λ (t : Bool). andThen (cond t (found tt j) (refused LeftOver)) (λ _ k. found (make parts) k)) (end-same s j m (omega (arith, ends F tt s i parts j y e₁)))
 
-  whole-gives : (s : List ℕ) → Gives (Arises (Opening ∷ Trailing ∷ whys)) (whole s 0)
+  whole-gives : (s : List ℕ) → Gives (Arises (Opening ∷ LeftOver ∷ whys)) (whole s 0)
   whole-gives s =
-      let P = Arises (Opening ∷ Trailing ∷ whys) in
+      let P = Arises (Opening ∷ LeftOver ∷ whys) in
       gives-then P (opening a b s 0) _ (gives-judged P (opens a b s) tt 2 Opening (inl refl))
       λ u i. gives-then P (F .read s i) _ (λ r e. inr (inr (F .gives s i r e)))
-      λ parts j. gives-then P (end s j) _ (gives-judged P (eqb j (length s)) tt j Trailing (inr (inl refl))) (λ _ k. gives-found P (make parts) k)
+      λ parts j. gives-then P (end s j) _ (gives-judged P (eqb j (length s)) tt j LeftOver (inr (inl refl))) (λ _ k. gives-found P (make parts) k)
 
 -- ---- the laws of a message, of the definitions that a reader must believe
 
@@ -126,7 +126,7 @@ module _ {R A : Type 0} {wide far : ℕ} {whys : List Reason} {a b : ℕ} {F : F
       let h : view q ≡ parts = ap view (sym m) ∙ T .holds parts k in
       (T .message-is q ∙ rw h e, T .valid-is q .0 (rw h k), T .cleared-is q ∙ rw h m)
 
-  pub laws : (enough : ℕ) → 2 + far ≤ enough → 2 + wide < enough → Message read message Valid Fits judge cleared (2 + wide) enough (Opening ∷ Trailing ∷ whys)
+  pub laws : (enough : ℕ) → 2 + far ≤ enough → 2 + wide < enough → Message read message Valid Fits judge cleared (2 + wide) enough (Opening ∷ LeftOver ∷ whys)
   laws enough f w = record {
     written = λ q v. rw (T .message-is q, T .read-is, T .cleared-is q) (whole-written a b F make (view q) (T .valid-is q .1 v));
     back = λ s y q n e. let (parts, k, m, p) = whole-read a b F make s y q n (sym (T .read-is s) ∙ e) in made-back s q parts k m p;

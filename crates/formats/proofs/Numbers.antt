@@ -10,7 +10,7 @@ use lib.Dec.{ltb}
 use lib.ListN.{take}
 use borrow.Author.Tests.{lt-ltb, ltb-true}
 use Rattle.refusal.specs.declared.Reason.{Reason}
-use Rattle.refusal.specs.declared.Reason.the-variants.{Malformed}
+use Rattle.refusal.specs.declared.Reason.the-variants.{Groups}
 use Rattle.number.specs.Numbers.{number, encode}
 use Rattle.number.proofs.Encoding.{length-encode}
 use Rattle.fields.specs.Fields.{field, within}
@@ -32,14 +32,14 @@ anyNumber g h = record {
   Ok = λ v. v < 128 ^ g;
   Sized = λ v. Unit;
   Small = λ v. v < 128 ^ g;
-  judge = λ v. check (ltb v (128 ^ g)) Malformed;
+  judge = λ v. check (ltb v (128 ^ g)) Groups;
   reads = λ _. number-codec g h .reads;
   writes = λ _. number-codec g h .writes;
   short = λ _ v k. length-encode g v h k;
   same = λ _ s at m y l. number-same g s at m l;
   gives = λ s at. gives-number (Arises []) (inl refl) (inr refl) g s at;
-  accepts = λ _ v _. (λ e. ltb-true v (128 ^ g) (judged-accepts (ltb v (128 ^ g)) Malformed .0 e), λ k. judged-accepts (ltb v (128 ^ g)) Malformed .1 (lt-ltb v (128 ^ g) k));
-  refuses = λ _ s at v rest r _ k e j. not-accepted r (sym j ∙ judged-accepts (ltb v (128 ^ g)) Malformed .1 (lt-ltb v (128 ^ g) k));
+  accepts = λ _ v _. (λ e. ltb-true v (128 ^ g) (judged-accepts (ltb v (128 ^ g)) Groups .0 e), λ k. judged-accepts (ltb v (128 ^ g)) Groups .1 (lt-ltb v (128 ^ g) k));
+  refuses = λ _ s at v rest r _ k e j. not-accepted r (sym j ∙ judged-accepts (ltb v (128 ^ g)) Groups .1 (lt-ltb v (128 ^ g) k));
 }
 
 pub gives-field : (g : ℕ) (ok : ℕ → Bool) (why : Reason) (s : List ℕ) (at : ℕ) → Gives (Arises (why ∷ [])) (field g ok why s at)

@@ -13,7 +13,7 @@ use Rattle.queue.specs.Reading.{readQueue}
 use Rattle.queue_laws.proofs.Theorems.{queue-refusal, message-needed}
 use Rattle.plan.specs.Reading.{readPlan}
 use Rattle.plan.proofs.Refusals.{plan-refusal, plan-refusal-needed}
-use Rattle.planning.proofs.Answers.{reason-range}
+use Rattle.best_order.proofs.Answers.{reason-range}
 
 verdict-fits : (v : Verdict) → ((r : Reason) → v ≡ Refused r → needed r ≡ 0) → verdictNumber v < 2 ^ 64
 verdict-fits Accepted h = omega arith

@@ -9,8 +9,8 @@ ghost use Rattle.refusal.specs.Reasons.{needed};
 ghost use Rattle.refusal.specs.Answers.{refusalNumber, verdictNumber, answerNumber};
 ghost use Rattle.queue.specs.Reading.{readQueue};
 ghost use Rattle.plan.specs.Reading.{readPlan};
-ghost use Rattle.planning.specs.Planning.{ending, answerOf, Leaves};
-ghost use Rattle.planning.specs.BestOrder.{BestOrder};
+ghost use Rattle.best_order.specs.Planning.{ending, answerOf, Leaves};
+ghost use Rattle.best_order.specs.BestOrder.{BestOrder};
 
 // The entries that the reason for 16 holds, else 0.
 fn needed_entries(reason: Reason) -> u64

@@ -9,7 +9,7 @@ use lib.ListN.{length, getD}
 use lib.Seq.{sets}
 use borrow.Author.Tests.{le-leb}
 use Rattle.refusal.specs.declared.Reason.{Reason}
-use Rattle.refusal.specs.declared.Reason.the-variants.{Order}
+use Rattle.refusal.specs.declared.Reason.the-variants.{NoOrder}
 use Rattle.refusal.specs.declared.Written.the-variants.{Bytes, Refused as NotWritten}
 use Rattle.refusal.specs.declared.Answer.{Answer}
 use Rattle.refusal.specs.declared.Answer.the-variants.{Planned, Refused}
@@ -24,10 +24,10 @@ use Rattle.sequencing.specs.Problem.{Problem}
 use Rattle.sequencing.specs.Recursion.{planCost, planOrder}
 use Rattle.sequencing.specs.Counts.{feasibleStates}
 use Rattle.sequencing.specs.Entries.{stored}
-use Rattle.problem.specs.Problem.{problem}
+use Rattle.problem.specs.OfQueue.{problem}
 use Rattle.problem.proofs.Queues.{cost-fits}
-use Rattle.planning.specs.Planning.{Ending, solved, bestPlan, answerOf, filledEntry, Leaves}
-use Rattle.planning.proofs.Plans.{valid-plan}
+use Rattle.best_order.specs.Planning.{Ending, solved, bestPlan, answerOf, filledEntry, Leaves}
+use Rattle.best_order.proofs.Plans.{valid-plan}
 
 -- an answer and what is left are those of an ending
 abbrev pub Ends : Ending → Answer → (table buffer table′ buffer′ : List ℕ) → Type 0
@@ -63,7 +63,7 @@ module _ (q : Queue) (v : Valid q) (table buffer table′ : List ℕ)
       go none h = absurd (e (cost-is ∙ ap stored h))
       go (some c) h = h ∙ ap some (sym (cost-is ∙ ap stored h))
 
-  pub ends-unplannable : cost ≡ 2 ^ 64 - 1 → Ends (solved q (planCost P)) (Refused Order) table buffer table′ buffer
+  pub ends-unplannable : cost ≡ 2 ^ 64 - 1 → Ends (solved q (planCost P)) (Refused NoOrder) table buffer table′ buffer
   ends-unplannable e = rw (none-found e) (refl, record { buffer-is = refl; table-long = long; table-is = fills })
 
   module _ (other : cost ≡ 2 ^ 64 - 1 → ⊥) (room : 77 ≤ length buffer) (states : ℕ) (states-is : states ≡ feasibleStates P)

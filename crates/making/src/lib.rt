@@ -10,8 +10,8 @@ ghost use lib.ListN.{length};
 ghost use Rattle.queue.specs.Record.{Valid};
 ghost use Rattle.sequencing.specs.Recursion.{planCost};
 ghost use Rattle.sequencing.specs.Entries.{entries};
-ghost use Rattle.problem.specs.Problem.{problem};
-ghost use Rattle.planning.specs.Planning.{solved, answerOf, Leaves};
+ghost use Rattle.problem.specs.OfQueue.{problem};
+ghost use Rattle.best_order.specs.Planning.{solved, answerOf, Leaves};
 
 // 17 with the table filled, or the plan written.
 pub fn make_plan(queue: Queue, table: &mut [u64], buffer: &mut [u8]) -> Answer
@@ -19,9 +19,9 @@ pub fn make_plan(queue: Queue, table: &mut [u64], buffer: &mut [u8]) -> Answer
     ensures { λ r. ⌜ r ≡ answerOf (solved queue (planCost (problem queue))) ⌝ }
     ensures { λ _. ⌜ Leaves (solved queue (planCost (problem queue))) (now (table .entry)) (now (buffer .entry)) (now (table .exit)) (now (buffer .exit)) ⌝ }
 {
-    let solution = solving::solve(queue, table);
-    if solution.cost == table::NONE {
-        return Answer::Refused(Reason::Order);
+    let solution = solver::solve(queue, table);
+    if solution.cost == next_states::NONE {
+        return Answer::Refused(Reason::NoOrder);
     }
     let order = following::follow(queue, solution.setup, table);
     let plan = Plan {

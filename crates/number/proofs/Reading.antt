@@ -13,7 +13,7 @@ use lib.ListN.{length, getD, drop, drop-of-length-le}
 use lib.Seq.{drop-cons}
 use lib.Pow.{pow-add}
 use borrow.Author.Tests.{lt-ltb, le-ltb, eq-eqb, ne-eqb, eqb-true}
-use Rattle.refusal.specs.declared.Reason.the-variants.{Ends, Malformed}
+use Rattle.refusal.specs.declared.Reason.the-variants.{Ends, Groups}
 use Rattle.number.specs.declared.Read.the-variants.{Value, Refused}
 use Rattle.number.specs.Readers.{Found, found, refused}
 use Rattle.number.specs.Numbers.{above, last, groupsAt, number}
@@ -73,7 +73,7 @@ reading-none bytes at groups =
     record { from = omega arith; shifted = omega arith; groups-left = omega arith; fits = omega arith; means = sym (placed-none _) }
 
 module _ (bytes : List ℕ) (at groups value shift i left : ℕ) (w : Reading bytes at groups value shift i left) where
-  pub reading-out : left ≡ 0 → Refused Malformed ≡ asRead (number groups bytes at)
+  pub reading-out : left ≡ 0 → Refused Groups ≡ asRead (number groups bytes at)
   unfolding groupsAt
   reading-out h = sym (ap asRead (w .means) ∙ rw h)
 
@@ -98,7 +98,7 @@ module _ (bytes : List ℕ) (at groups value shift i left : ℕ) (w : Reading by
           }
 
       -- a last group of 00 that is not the first
-      pub reading-zero : getD bytes i 0 ≡ 0 → 0 < shift → Refused Malformed ≡ asRead (number groups bytes at)
+      pub reading-zero : getD bytes i 0 ≡ 0 → 0 < shift → Refused Groups ≡ asRead (number groups bytes at)
       reading-zero z p =
           sym (ap asRead (w .means) ∙ rw (at-last (eqb shift 0) i bytes left h l (omega arith), ne-eqb shift 0 (omega arith), eq-eqb _ _ z))
 

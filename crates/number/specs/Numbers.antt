@@ -4,7 +4,7 @@ use mathlib.Core.List.{List, [], _∷_}
 use mathlib.Core.Bool.{Bool, true, false, cond}
 use lib.ListN.{drop}
 use lib.Dec.{ltb, eqb}
-use Rattle.refusal.specs.declared.Reason.the-variants.{Ends, Malformed}
+use Rattle.refusal.specs.declared.Reason.the-variants.{Ends, Groups}
 use Rattle.number.specs.Readers.{Found, found, refused, Reader}
 
 -- a group's seven bits below the rest of the number
@@ -15,11 +15,11 @@ above low (refused r) = refused r
 -- the last group, b, which ends at position n: a byte 00 may not end a number of several groups
 abbrev pub last : Bool → ℕ → ℕ → Found ℕ
 last true b n = found b n
-last false b n = cond (eqb b 0) (refused Malformed) (found b n)
+last false b n = cond (eqb b 0) (refused Groups) (found b n)
 
 -- at most g more groups, whose bytes from position p on are s. `first`: no group came before
 unfoldable pub groupsAt : Bool → ℕ → ℕ → List ℕ → Found ℕ
-groupsAt first zero p s = refused Malformed
+groupsAt first zero p s = refused Groups
 groupsAt first (suc g) p [] = refused Ends
 groupsAt first (suc g) p (b ∷ s) =
     cond (ltb b 128) (last first b (p + 1)) (above (b - 128) (groupsAt false g (p + 1) s))

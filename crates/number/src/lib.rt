@@ -55,7 +55,7 @@ pub fn read_number(bytes: &[u8], at: usize, groups: u32) -> Read
         if b & 128 == 0 {
             if b == 0 {
                 if 0 < shift {
-                    return Read::Refused(Reason::Malformed);
+                    return Read::Refused(Reason::Groups);
                 }
             }
             return Read::Value { value, next: i };
@@ -63,7 +63,7 @@ pub fn read_number(bytes: &[u8], at: usize, groups: u32) -> Read
         shift = shift + 7;
         left = left - 1;
     }
-    Read::Refused(Reason::Malformed)
+    Read::Refused(Reason::Groups)
 }
 
 // Writes `value` from `at`; returns the position behind its last byte.

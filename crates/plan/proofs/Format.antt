@@ -9,7 +9,7 @@ use native.Mathlib.Omega.{arith}
 use lib.ListN.{length}
 use borrow.Author.Tests.{lt-ltb}
 use Rattle.refusal.specs.declared.Reason.{Reason}
-use Rattle.refusal.specs.declared.Reason.the-variants.{Malformed, Edition, Goal, Jobs, Job, Opening, Trailing}
+use Rattle.refusal.specs.declared.Reason.the-variants.{Groups, Edition, Goal, Jobs, Job, Opening, LeftOver}
 use Rattle.number.specs.Numbers.{encode}
 use Rattle.number.proofs.Steps.{bool-cases}
 use Rattle.fields.specs.Fields.{field, within, encodeAll}
@@ -98,12 +98,12 @@ longNumber =
     rejudged F (record {
       Ok = λ v. v < 2 ^ 42;
       Sized = F .Sized;
-      judge = λ v. check (within 0 (2 ^ 42 - 1) v) Malformed;
+      judge = λ v. check (within 0 (2 ^ 42 - 1) v) Groups;
       ok-is = λ z v. (λ k. k, λ k. k);
       short = F .short;
       accepts = λ z v _. (
-        λ e. let b = within-true 0 (2 ^ 42 - 1) v (judged-accepts (within 0 (2 ^ 42 - 1) v) Malformed .0 e) in omega arith,
-        λ k. judged-accepts (within 0 (2 ^ 42 - 1) v) Malformed .1 (true-within 0 (2 ^ 42 - 1) v (omega arith) (omega arith)),
+        λ e. let b = within-true 0 (2 ^ 42 - 1) v (judged-accepts (within 0 (2 ^ 42 - 1) v) Groups .0 e) in omega arith,
+        λ k. judged-accepts (within 0 (2 ^ 42 - 1) v) Groups .1 (true-within 0 (2 ^ 42 - 1) v (omega arith) (omega arith)),
       );
       sized-is = λ v n. n;
       judge-is = λ v k. rw (true-within 0 (2 ^ 42 - 1) v (omega arith) (omega arith), lt-ltb v (128 ^ 6) k);
@@ -179,7 +179,7 @@ tied = record {
 }
 
 abbrev pub planRefusals : List Reason
-planRefusals = Opening ∷ Trailing ∷ Edition ∷ Goal ∷ Jobs ∷ Job ∷ []
+planRefusals = Opening ∷ LeftOver ∷ Edition ∷ Goal ∷ Jobs ∷ Job ∷ []
 
 -- at most 77 bytes, of which the first 79 decide
 pub plan-message : Message plan message Valid Fits judge cleared 77 79 planRefusals

@@ -2,7 +2,7 @@
 use Prim.Native.Nat.{ℕ, _^_}
 use mathlib.Core.Path.{_≡_, refl}
 use mathlib.Core.List.{List, [], _∷_, flatMap}
-use Rattle.refusal.specs.declared.Reason.the-variants.{Opening, Ends, Malformed, Edition, Goal, Jobs, Job, Trailing, Buffer}
+use Rattle.refusal.specs.declared.Reason.the-variants.{Opening, Ends, Groups, Edition, Goal, Jobs, Job, LeftOver, Buffer}
 use Rattle.refusal.specs.declared.Verdict.the-variants.{Accepted, Refused}
 use Rattle.refusal.specs.declared.Written.the-variants.{Bytes, Refused as NotWritten}
 use Rattle.number.specs.Readers.{refused}
@@ -43,7 +43,7 @@ Examples =
     -- 2: the bytes end in the cost
     × (readPlan (0x51 ∷ 0x50 ∷ 0x01 ∷ 0x01 ∷ 0xC8 ∷ []) ≡ asReading (refused Ends))
     -- 3: an edition of two groups that ends in 00 is not judged
-    × (readPlan (0x51 ∷ 0x50 ∷ 0x81 ∷ 0x00 ∷ []) ≡ asReading (refused Malformed))
+    × (readPlan (0x51 ∷ 0x50 ∷ 0x81 ∷ 0x00 ∷ []) ≡ asReading (refused Groups))
     -- 4
     × (readPlan (0x51 ∷ 0x50 ∷ 0x02 ∷ []) ≡ asReading (refused Edition))
     -- 6
@@ -55,10 +55,10 @@ Examples =
     × (readPlan (0x51 ∷ 0x50 ∷ 0x01 ∷ 0x01 ∷ 0x46 ∷ 0x07 ∷ 0x02 ∷ 0x00 ∷ 0x01 ∷ []) ≡ asReading (refused Job))
     × (readPlan (0x51 ∷ 0x50 ∷ 0x01 ∷ 0x01 ∷ 0x46 ∷ 0x07 ∷ 0x02 ∷ 0x05 ∷ []) ≡ asReading (refused Job))
     -- 14: no jobs, and a byte
-    × (readPlan (0x51 ∷ 0x50 ∷ 0x01 ∷ 0x01 ∷ 0x46 ∷ 0x07 ∷ 0x00 ∷ 0x00 ∷ []) ≡ asReading (refused Trailing))
+    × (readPlan (0x51 ∷ 0x50 ∷ 0x01 ∷ 0x01 ∷ 0x46 ∷ 0x07 ∷ 0x00 ∷ 0x00 ∷ []) ≡ asReading (refused LeftOver))
     -- writing: 3 before 12, 15 last
-    × (judge (planOf 1 (2 ^ 42) 7 61 []) ≡ Refused Malformed)
-    × (judge (planOf 1 70 (2 ^ 42) 61 []) ≡ Refused Malformed)
+    × (judge (planOf 1 (2 ^ 42) 7 61 []) ≡ Refused Groups)
+    × (judge (planOf 1 70 (2 ^ 42) 61 []) ≡ Refused Groups)
     × (judge (planOf 1 70 7 61 []) ≡ Refused Jobs)
     × (judge (planOf 3 (2 ^ 42) 7 61 []) ≡ Refused Goal)
     × (judge (planOf 1 70 7 2 (1 ∷ 3 ∷ [])) ≡ Refused Job)

@@ -3,7 +3,7 @@ use Prim.Native.Nat.{ℕ, _-_, _^_}
 use mathlib.Core.Bool.{Bool, true, _&&_}
 use mathlib.Core.List.{List, [], _∷_, _++_}
 use lib.ListN.{length}
-use Rattle.refusal.specs.declared.Reason.the-variants.{Malformed, Goal, Jobs, Job}
+use Rattle.refusal.specs.declared.Reason.the-variants.{Groups, Goal, Jobs, Job}
 use Rattle.refusal.specs.declared.Verdict.{Verdict}
 use Rattle.refusal.specs.declared.Written.{Written}
 use Rattle.number.specs.Numbers.{encode}
@@ -27,8 +27,8 @@ allFresh t earlier (j ∷ js) = fresh t earlier j && allFresh t (earlier ++ (j �
 unfoldable pub judge : Plan → Verdict
 judge p =
     check (within 1 2 (p .goal)) Goal
-    before check (within 0 (2 ^ 42 - 1) (p .cost)) Malformed
-    before check (within 0 (2 ^ 42 - 1) (p .«feasible_states»)) Malformed
+    before check (within 0 (2 ^ 42 - 1) (p .cost)) Groups
+    before check (within 0 (2 ^ 42 - 1) (p .«feasible_states»)) Groups
     before check (within 0 60 (p .jobs)) Jobs
     before check (allFresh (p .jobs) [] (jobList p)) Job
 

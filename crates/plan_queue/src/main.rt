@@ -1,7 +1,7 @@
 // Plans the queue message on standard input, and prints the plan place by place, or the refusal.
-use finishing::Line;
 use libc::STDOUT_FILENO;
 use plan::Plan;
+use plan_lines::Line;
 use queue::Queue;
 use refusal::Answer;
 use refusal::Group;
@@ -54,7 +54,7 @@ fn print_places(queue: Queue, plan: Plan) {
     let mut place: u32 = 0;
     while place < plan.jobs {
         place = place + 1;
-        print_line(finishing::line_at(queue, plan, place));
+        print_line(plan_lines::line_at(queue, plan, place));
     }
 }
 
@@ -81,6 +81,6 @@ fn main() {
     let n = io::read_full(libc::STDIN_FILENO, &mut input);
     match planner::plan(&input[..n], &mut table, &mut buffer) {
         Answer::Refused(why) => print_refusal(why),
-        Answer::Planned(bytes) => print_plan(&input[..n], finishing::written(&buffer, bytes)),
+        Answer::Planned(bytes) => print_plan(&input[..n], plan_lines::written(&buffer, bytes)),
     }
 }

@@ -7,7 +7,7 @@ use native.Mathlib.Omega.{arith}
 use lib.ListN.{length}
 use borrow.Author.Tests.{eq-eqb, ne-eqb}
 use Rattle.refusal.specs.declared.Reason.{Reason}
-use Rattle.refusal.specs.declared.Reason.the-variants.{Edition, Goal, Jobs, Trailing}
+use Rattle.refusal.specs.declared.Reason.the-variants.{Edition, Goal, Jobs, LeftOver}
 use Rattle.refusal.specs.declared.Verdict.the-variants.{Accepted}
 use Rattle.number.specs.Readers.{Found, found, refused, andThen}
 use Rattle.number.specs.Numbers.{number}
@@ -82,7 +82,7 @@ module _ (s : List ℕ) where
     whole-order r o = rw (← plan-front s 0, e, o)
 
     module _ (js : List ℕ) (m : ℕ) (o : order (f .jobs) (f .jobs) [] s (f .next) ≡ found js m) where
-      pub whole-trailing : (m ≡ length s → ⊥) → asReading (refused Trailing) ≡ readPlan s
+      pub whole-trailing : (m ≡ length s → ⊥) → asReading (refused LeftOver) ≡ readPlan s
       unfolding readPlan
       whole-trailing h = rw (← plan-front s 0, e, o, ne-eqb m (length s) h)
 

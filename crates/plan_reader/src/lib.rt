@@ -153,7 +153,7 @@ pub fn read_plan(bytes: &[u8]) -> Reading
                 Outcome::Refused(why) => blank(why),
                 Outcome::Next(end) => {
                     if end != bytes.len() {
-                        return blank(Reason::Trailing);
+                        return blank(Reason::LeftOver);
                     }
                     Reading {
                         verdict: Verdict::Accepted,

@@ -6,7 +6,7 @@ use mathlib.Core.Bool.{Bool}
 use mathlib.Core.List.{[]}
 use native.Mathlib.Omega.{arith}
 use lib.ListN.{length, take}
-use Rattle.refusal.specs.declared.Reason.the-variants.{Malformed, Goal, Jobs, Job}
+use Rattle.refusal.specs.declared.Reason.the-variants.{Groups, Goal, Jobs, Job}
 use Rattle.refusal.specs.declared.Verdict.the-variants.{Accepted, Refused}
 use Rattle.fields.specs.Messages.{check}
 use Rattle.fields.proofs.Judged.{low-out, high-out, true-within}
@@ -24,12 +24,12 @@ module _ (p : Plan) where
   judge-goal h = rw (high-out 1 2 (p .goal) h)
 
   module _ (l : 1 ≤ p .goal) (u : p .goal ≤ 2) where
-    pub judge-cost : 4398046511103 < p .cost → Refused Malformed ≡ judge p
+    pub judge-cost : 4398046511103 < p .cost → Refused Groups ≡ judge p
     unfolding judge
     judge-cost h = rw (true-within 1 2 (p .goal) l u, high-out 0 (2 ^ 42 - 1) (p .cost) h)
 
     module _ (c : p .cost ≤ 4398046511103) where
-      pub judge-states : 4398046511103 < p .«feasible_states» → Refused Malformed ≡ judge p
+      pub judge-states : 4398046511103 < p .«feasible_states» → Refused Groups ≡ judge p
       unfolding judge
       judge-states h =
           rw (true-within 1 2 (p .goal) l u, true-within 0 (2 ^ 42 - 1) (p .cost) (omega arith) c, high-out 0 (2 ^ 42 - 1) (p .«feasible_states») h)

@@ -44,10 +44,10 @@ fn judge_plan(plan: Plan) -> Verdict
         return Verdict::Refused(Reason::Goal);
     }
     if 4398046511103 < plan.cost {
-        return Verdict::Refused(Reason::Malformed);
+        return Verdict::Refused(Reason::Groups);
     }
     if 4398046511103 < plan.feasible_states {
-        return Verdict::Refused(Reason::Malformed);
+        return Verdict::Refused(Reason::Groups);
     }
     if 60 < plan.jobs {
         return Verdict::Refused(Reason::Jobs);

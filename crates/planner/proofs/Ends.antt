@@ -10,9 +10,9 @@ use Rattle.refusal.specs.declared.Answer.the-variants.{Refused}
 use Rattle.refusal.specs.Answers.{answerNumber}
 use Rattle.fields.proofs.Codecs.{Bytes as AreBytes}
 use Rattle.queue.specs.Reading.{readQueue}
-use Rattle.planning.specs.Planning.{Ending, refused, ending, answerOf, Leaves}
-use Rattle.planning.specs.BestOrder.{BestOrder}
-use Rattle.planning.proofs.Best.{best-order}
+use Rattle.best_order.specs.Planning.{Ending, refused, ending, answerOf, Leaves}
+use Rattle.best_order.specs.BestOrder.{BestOrder}
+use Rattle.best_order.proofs.Best.{best-order}
 use Rattle.making.proofs.Made.{Ends}
 
 pub ends-as : {e e′ : Ending} {answer : Answer} {table buffer table′ buffer′ : List ℕ} → e ≡ e′ → Ends e′ answer table buffer table′ buffer′ → Ends e answer table buffer table′ buffer′

@@ -8,8 +8,8 @@ ghost use lib.ListN.{length};
 ghost use Rattle.refusal.specs.Answers.{answerNumber};
 ghost use Rattle.queue.specs.Record.{Valid};
 ghost use Rattle.queue.specs.Reading.{readQueue};
-ghost use Rattle.planning.specs.Planning.{endingOf, ending, answerOf, Leaves};
-ghost use Rattle.planning.specs.BestOrder.{BestOrder};
+ghost use Rattle.best_order.specs.Planning.{endingOf, ending, answerOf, Leaves};
+ghost use Rattle.best_order.specs.BestOrder.{BestOrder};
 
 // Plans a queue that was read: 15, 16, 17, or the plan.
 fn plan_queue(queue: Queue, table: &mut [u64], buffer: &mut [u8]) -> Answer
@@ -17,7 +17,7 @@ fn plan_queue(queue: Queue, table: &mut [u64], buffer: &mut [u8]) -> Answer
     ensures { λ r. ⌜ r ≡ answerOf (endingOf queue (length (now (table .entry))) (length (now (buffer .entry)))) ⌝ }
     ensures { λ _. ⌜ Leaves (endingOf queue (length (now (table .entry))) (length (now (buffer .entry)))) (now (table .entry)) (now (buffer .entry)) (now (table .exit)) (now (buffer .exit)) ⌝ }
 {
-    let needed = setup::needed_entries(queue);
+    let needed = layout::needed_entries(queue);
     if buffer.len() < 77 {
         return Answer::Refused(Reason::Buffer);
     }

@@ -5,14 +5,15 @@ use mathlib.Core.Path.{refl}
 use Prim.Native.Nat.{ℕ}
 use Rattle.sequencing.specs.Lists.{from, count, sum, weigh, filter, sumBelow}
 use Rattle.sequencing.specs.Orders.{cost, finishes, makespan, weightedCompletion}
-use Rattle.sequencing.specs.States.{jobsOf, all, byHandIn}
+use Rattle.sequencing.specs.States.{jobsOf, allLeft, byHandIn}
 use Rattle.sequencing.specs.Least.{least, argLeast}
 use Rattle.sequencing.specs.Recursion.{W, toGo, value, choice, walk, planCost, planKinds, planOrder}
 use Rattle.sequencing.specs.Entries.{size, digits, entryKind, entryLeft}
 use Rattle.sequencing.specs.Counts.{feasibleStates}
 use Rattle.fields.specs.Lists.{tabulate}
 use Rattle.queue.specs.Reading.{placed}
-use Rattle.problem.specs.Problem.{allowed, problem}
+use Rattle.problem.specs.PlaceRule.{allowed}
+use Rattle.problem.specs.OfQueue.{problem}
 use Rattle.problem.specs.Cases.{A, B, Cases}
 use Rattle.problem.proofs.PermittedOrders.{permittedOrders, permitted-orders}
 
@@ -26,7 +27,7 @@ last-exchanged f = ((λ x. go (f .0 x)), (λ m. f .1 (go m)))
     go (List·Memᴰ·tail (List·Memᴰ·tail (List·Memᴰ·head e))) = List·Memᴰ·tail (List·Memᴰ·head e)
 
 pub cases : Cases
-unfolding planCost planKinds planOrder feasibleStates value toGo choice walk byHandIn least argLeast W all jobsOf sum weigh filter from count sumBelow size digits entryKind entryLeft cost finishes makespan weightedCompletion tabulate placed allowed permittedOrders flatMap
+unfolding planCost planKinds planOrder feasibleStates value toGo choice walk byHandIn least argLeast W allLeft jobsOf sum weigh filter from count sumBelow size digits entryKind entryLeft cost finishes makespan weightedCompletion tabulate placed allowed permittedOrders flatMap
 cases = record {
   A-exactly-three = λ o. last-exchanged (permitted-orders (problem A) o);
   A-costs = refl;

@@ -8,13 +8,13 @@ use native.Mathlib.Omega.{arith}
 use Rattle.sequencing.specs.Lists.{at, sum, sumBelow}
 use Rattle.sequencing.specs.Problem.{Problem, kind}
 use Rattle.sequencing.specs.Orders.{IsOrder, Permitted, cost}
-use Rattle.sequencing.specs.States.{complete, K, all, IsLeft, IsPair, IsState}
+use Rattle.sequencing.specs.States.{complete, K, allLeft, IsLeft, IsPair, IsState}
 use Rattle.sequencing.specs.Least.{least, argLeast}
 use Rattle.sequencing.specs.Recursion.{permit, value, choice, planCost, planKinds, planOrder}
 use Rattle.sequencing.specs.Feasible.{Feasible}
 use Rattle.sequencing.specs.Ties.{Smallest, TieRule, Precedes}
 use Rattle.sequencing.specs.Entries.{digits, stride, block, entries, number, entryKind, entryLeft}
-use Rattle.sequencing.specs.Counts.{CountsFeasible, found, feasibleStates}
+use Rattle.sequencing.specs.Counts.{CountsFeasible, valued, feasibleStates}
 use Rattle.sequencing.specs.Limits.{valueLimit}
 use Rattle.sequencing.proofs.AllJobs.{sum-all}
 use Rattle.sequencing.proofs.Best.{plan-is, plan-least, no-plan}
@@ -28,7 +28,7 @@ use Rattle.sequencing.proofs.FeasibleCount.{feasible-count, count-unique}
 use Rattle.sequencing.proofs.LoopOrder.{count-by-left}
 use Rattle.queue.specs.declared.Queue.{Queue}
 use Rattle.queue.specs.Record.{Valid}
-use Rattle.problem.specs.Problem.{problem}
+use Rattle.problem.specs.OfQueue.{problem}
 use Rattle.problem.proofs.Rule.{jobs-is, exchange, proper, limits, few-jobs}
 
 -- what is at most 1000 × 65535 × 1830 fits six groups of seven bits and is not 2^64 − 1
@@ -62,7 +62,7 @@ module _ (q : Queue) (valid : Valid q) where
   smallest-taken L k c s = smallest (choice P L k) (P .N) c
 
   -- along the whole plan each kind taken is the smallest that reaches the least
-  pub ties : (c : ℕ) → planCost P ≡ some c → TieRule P (P .start) (all P) (planKinds P)
+  pub ties : (c : ℕ) → planCost P ≡ some c → TieRule P (P .start) (allLeft P) (planKinds P)
   ties = tie-rule P
 
   -- and so no permitted order of the same cost comes before the plan by kinds, place by place
@@ -83,14 +83,14 @@ module _ (q : Queue) (valid : Valid q) where
   pub no-value : (L : ℕ) (k : List ℕ) → IsPair P L k → K P L ≤ at k L → value P L k ≡ none
   no-value L k p = value-no-job P L k
 
-  jobs-left : sum (all P) ≡ q .jobs
+  jobs-left : sum (allLeft P) ≡ q .jobs
   jobs-left = sum-all P (proper q valid) ∙ jobs-is q
 
   -- the plan's cost by the same rule, from s with all jobs left
   pub plan-no-jobs : q .jobs ≡ 0 → planCost P ≡ some 0
   plan-no-jobs h = plan-none-left P (omega (arith, jobs-left))
 
-  pub plan-some-jobs : 0 < q .jobs → planCost P ≡ least (choice P (P .start) (all P)) (P .N)
+  pub plan-some-jobs : 0 < q .jobs → planCost P ≡ least (choice P (P .start) (allLeft P)) (P .N)
   plan-some-jobs h = plan-some-left P (omega (arith, jobs-left))
 
   -- ---- the table
@@ -104,7 +104,7 @@ module _ (q : Queue) (valid : Valid q) where
   paired n h = (pair-in P n h, number-pair P n)
 
   -- the next state by way of x stands x's stride lower, in x's block
-  pub next-number : (L : ℕ) (k : List ℕ) (x : ℕ) → IsPair P L k → 0 < at k x → number P x (complete k x) + stride (all P) x ≡ number P x k
+  pub next-number : (L : ℕ) (k : List ℕ) (x : ℕ) → IsPair P L k → 0 < at k x → number P x (complete k x) + stride (allLeft P) x ≡ number P x k
   next-number L k x p = number-next P k x (p .left)
 
   -- 8. how large a value is
@@ -126,5 +126,5 @@ module _ (q : Queue) (valid : Valid q) where
   counted-once n c = count-unique P n (feasibleStates P) c (feasible-count P)
 
   -- a loop with k outermost and L within finds the same total
-  pub counted-by-left : sumBelow (λ i. sumBelow (λ l. found (value P (suc l) (digits (all P) i))) (P .N)) (block P) ≡ feasibleStates P
+  pub counted-by-left : sumBelow (λ i. sumBelow (λ l. valued (value P (suc l) (digits (allLeft P) i))) (P .N)) (block P) ≡ feasibleStates P
   counted-by-left = count-by-left P

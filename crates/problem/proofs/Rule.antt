@@ -11,7 +11,8 @@ use Rattle.queue.specs.declared.Queue.{Queue}
 use Rattle.queue.specs.Record.{firstPlace, lastPlace, kind, Valid}
 use Rattle.fields.specs.Lists.{tabulate}
 use Rattle.fields.proofs.Tables.{length-tabulate}
-use Rattle.problem.specs.Problem.{distance, allowed, problem}
+use Rattle.problem.specs.PlaceRule.{distance, allowed}
+use Rattle.problem.specs.OfQueue.{problem}
 use Rattle.problem.proofs.Tests.{and-l, and-r, and}
 
 -- the element i steps after f s is f (s + i)

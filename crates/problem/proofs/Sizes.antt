@@ -8,11 +8,11 @@ use lib.ListN.{length}
 use Rattle.queue.specs.declared.Queue.{Queue}
 use Rattle.queue.specs.Record.{Valid}
 use Rattle.sequencing.specs.Lists.{at}
-use Rattle.sequencing.specs.States.{all, K}
+use Rattle.sequencing.specs.States.{allLeft, K}
 use Rattle.sequencing.specs.Entries.{size, block, entries}
 use Rattle.sequencing.proofs.AllJobs.{at-all, length-all, sum-all}
 use Rattle.sequencing.proofs.Vectors.{at-sum}
-use Rattle.problem.specs.Problem.{problem}
+use Rattle.problem.specs.OfQueue.{problem}
 use Rattle.problem.proofs.Rule.{proper, few-jobs}
 
 size-most : (cs : List ℕ) → ((j : ℕ) → at cs j ≤ 60) → size cs ≤ 61 ^ length cs
@@ -26,13 +26,13 @@ size-most (c ∷ cs) h = rw (pow-suc 61 (length cs)) (omega (arith, mul-le-mul {
 
 module _ (q : Queue) (v : Valid q) where
   pub kind-few : (j : ℕ) → 1 ≤ j → j ≤ q .kinds → K (problem q) j ≤ 60
-  kind-few j l u = omega (arith, at-all (problem q) j l u, at-sum (all (problem q)) j, sum-all (problem q) (proper q v), few-jobs q v)
+  kind-few j l u = omega (arith, at-all (problem q) j l u, at-sum (allLeft (problem q)) j, sum-all (problem q) (proper q v), few-jobs q v)
 
   block-most : block (problem q) ≤ 61 ^ 5
   block-most =
       let P = problem q in
-      let few : (j : ℕ) → at (all P) j ≤ 60 = λ j. omega (arith, at-sum (all P) j, sum-all P (proper q v), few-jobs q v) in
-      le-trans (size-most (all P) few) (pow-le-pow-right {n = 61} (omega arith) {i = length (all P)} {j = 5} (omega (arith, length-all P, v .kinds)))
+      let few : (j : ℕ) → at (allLeft P) j ≤ 60 = λ j. omega (arith, at-sum (allLeft P) j, sum-all P (proper q v), few-jobs q v) in
+      le-trans (size-most (allLeft P) few) (pow-le-pow-right {n = 61} (omega arith) {i = length (allLeft P)} {j = 5} (omega (arith, length-all P, v .kinds)))
 
   pub block-fits : block (problem q) < 2 ^ 64
   block-fits = omega (arith, block-most)

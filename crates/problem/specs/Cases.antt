@@ -12,7 +12,7 @@ use Rattle.sequencing.specs.Counts.{feasibleStates}
 use Rattle.queue.specs.declared.Queue.{Queue}
 use Rattle.queue.specs.Record.{gap}
 use Rattle.queue.specs.Reading.{headOf, withJobs}
-use Rattle.problem.specs.Problem.{problem}
+use Rattle.problem.specs.OfQueue.{problem}
 
 -- a queue record from its numbers, in message order: N, goal, m, s, gap rows, pupils, allowed places, kinds of the jobs
 abbrev pub queueOf : (n goal shift start : ℕ) (rows : List (List ℕ)) (weights : List ℕ) (windows : List (ℕ × ℕ)) (kinds : List ℕ) → Queue

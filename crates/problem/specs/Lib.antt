@@ -1,2 +1,3 @@
-pub mod Problem
+pub mod PlaceRule
+pub mod OfQueue
 pub mod Cases

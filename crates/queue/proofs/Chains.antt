@@ -7,7 +7,7 @@ use mathlib.Core.List.{List}
 use lib.Dec.{eqb}
 use lib.ListN.{length}
 use Rattle.refusal.specs.declared.Reason.{Reason}
-use Rattle.refusal.specs.declared.Reason.the-variants.{Opening, Edition, Gap, Weight, Jobs, Kind, Trailing}
+use Rattle.refusal.specs.declared.Reason.the-variants.{Opening, Edition, Gap, Pupils, Jobs, Kind, LeftOver}
 use Rattle.number.specs.Readers.{Found, found, refused, Reader, times}
 use Rattle.fields.specs.Fields.{field, within}
 use Rattle.fields.specs.Messages.{opens}
@@ -20,7 +20,7 @@ abbrev pub gapField : Reader ℕ
 gapField = field 3 (within 0 65535) Gap
 
 abbrev pub weightField : Reader ℕ
-weightField = field 3 (within 0 1000) Weight
+weightField = field 3 (within 0 1000) Pupils
 
 abbrev pub kindField : ℕ → Reader ℕ
 kindField n = field 3 (within 1 n) Kind
@@ -68,7 +68,7 @@ module _ (q : Queue) (s : List ℕ) (at : ℕ) where
     no-kinds r g = rw (e, g)
 
     module _ (kinds : List ℕ) (b : ℕ) (g : times t (kindField (q .kinds)) s a ≡ found kinds b) where
-      pub left-over : eqb b (length s) ≡ false → closed (jobs q) s at ≡ refused Trailing
+      pub left-over : eqb b (length s) ≡ false → closed (jobs q) s at ≡ refused LeftOver
       unfolding jobs
       left-over h = rw (e, g, h)
 

@@ -3,7 +3,7 @@ use Prim.Native.Nat.{ℕ, _+_}
 use mathlib.Core.List.{List, [], _∷_, _++_, flatMap}
 use mathlib.Core.Path.{_≡_, refl}
 use lib.ListN.{drop, take}
-use Rattle.refusal.specs.declared.Reason.the-variants.{Opening, Ends, Malformed, Edition, Kinds, Goal, Shift, Start, Gap, Weight, Window, Jobs, Kind, Trailing, Buffer}
+use Rattle.refusal.specs.declared.Reason.the-variants.{Opening, Ends, Groups, Edition, Kinds, Goal, Shift, Start, Gap, Pupils, Places, Jobs, Kind, LeftOver, Buffer}
 use Rattle.refusal.specs.declared.Verdict.the-variants.{Accepted, Refused}
 use Rattle.refusal.specs.declared.Written.the-variants.{Bytes, Refused as NotWritten}
 use Rattle.number.specs.Readers.{refused, times}
@@ -49,7 +49,7 @@ Examples =
     × (readQueue bytesG ≡ accepted (queueOf 2 1 0 []))
     × (message (queueOf 2 1 0 []) ≡ bytesG)
     -- I, as the first gap: 80 00 gives 3, 81 at the end 2, FF FF 03 is accepted, 80 80 04 gives 9
-    × (readQueue (with 7 (0x80 ∷ 0x00 ∷ [])) ≡ asReading (refused Malformed))
+    × (readQueue (with 7 (0x80 ∷ 0x00 ∷ [])) ≡ asReading (refused Groups))
     × (readQueue (take 7 bytesA ++ (0x81 ∷ [])) ≡ asReading (refused Ends))
     × (readQueue (with 7 (0xFF ∷ 0xFF ∷ 0x03 ∷ [])) .queue .gaps ≡ 65535 ∷ drop 1 (queueOf 2 1 0 [] .gaps))
     × (readQueue (with 7 (0x80 ∷ 0x80 ∷ 0x04 ∷ [])) ≡ asReading (refused Gap))
@@ -64,13 +64,13 @@ Examples =
     × (readQueue (with 5 (0x3D ∷ [])) ≡ asReading (refused Shift))
     × (readQueue (with 6 (0x03 ∷ [])) ≡ asReading (refused Start))
     -- 10 and 11: a_1 = 0 is judged after b_1 was read
-    × (readQueue (with 13 (0xE9 ∷ 0x07 ∷ [])) ≡ asReading (refused Weight))
-    × (readQueue (with 15 (0x00 ∷ [])) ≡ asReading (refused Window))
+    × (readQueue (with 13 (0xE9 ∷ 0x07 ∷ [])) ≡ asReading (refused Pupils))
+    × (readQueue (with 15 (0x00 ∷ [])) ≡ asReading (refused Places))
     × (readQueue (take 15 bytesA ++ (0x00 ∷ [])) ≡ asReading (refused Ends))
     -- 12 before any job, 13, 14
     × (readQueue (take 19 bytesA ++ (0x3D ∷ [])) ≡ asReading (refused Jobs))
     × (readQueue (with 22 (0x03 ∷ [])) ≡ asReading (refused Kind))
-    × (readQueue (bytesA ++ (0x00 ∷ [])) ≡ asReading (refused Trailing))
+    × (readQueue (bytesA ++ (0x00 ∷ [])) ≡ asReading (refused LeftOver))
     -- writing: the record before the buffer
     × (writeQueue (queueOf 2 1 3 (1 ∷ 2 ∷ 1 ∷ [])) 178 ≡ Bytes 23)
     × (writeQueue (queueOf 2 1 3 (1 ∷ 2 ∷ 1 ∷ [])) 177 ≡ NotWritten Buffer)
@@ -82,9 +82,9 @@ Examples =
     × (judge (recordOf 61 0 10 3 (1, 60) (1 ∷ 2 ∷ 1 ∷ [])) ≡ Refused Shift)
     × (judge (recordOf 1 3 10 3 (1, 60) (1 ∷ 2 ∷ 1 ∷ [])) ≡ Refused Start)
     × (judge (recordOf 1 0 65536 3 (1, 60) (1 ∷ 2 ∷ 1 ∷ [])) ≡ Refused Gap)
-    × (judge (recordOf 1 0 10 1001 (1, 60) (1 ∷ 2 ∷ 1 ∷ [])) ≡ Refused Weight)
-    × (judge (recordOf 1 0 10 3 (0, 60) (1 ∷ 2 ∷ 1 ∷ [])) ≡ Refused Window)
-    × (judge (recordOf 1 0 10 3 (1, 61) (1 ∷ 2 ∷ 1 ∷ [])) ≡ Refused Window)
+    × (judge (recordOf 1 0 10 1001 (1, 60) (1 ∷ 2 ∷ 1 ∷ [])) ≡ Refused Pupils)
+    × (judge (recordOf 1 0 10 3 (0, 60) (1 ∷ 2 ∷ 1 ∷ [])) ≡ Refused Places)
+    × (judge (recordOf 1 0 10 3 (1, 61) (1 ∷ 2 ∷ 1 ∷ [])) ≡ Refused Places)
     × (judge (queueOf 2 1 61 []) ≡ Refused Jobs)
     × (judge (recordOf 1 0 10 3 (1, 60) (1 ∷ 2 ∷ 3 ∷ [])) ≡ Refused Kind)
     × (judge (recordOf 1 0 10 3 (1, 60) (1 ∷ 2 ∷ 0 ∷ [])) ≡ Refused Kind)

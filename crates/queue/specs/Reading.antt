@@ -3,7 +3,7 @@ use Prim.Native.Nat.{ℕ, suc, _+_, _*_}
 use mathlib.Core.List.{List, [], _∷_, map}
 use lib.ListN.{replicate}
 use lib.Seq.{sets}
-use Rattle.refusal.specs.declared.Reason.the-variants.{Edition, Kinds, Goal, Shift, Start, Gap, Weight, Window, Jobs, Kind}
+use Rattle.refusal.specs.declared.Reason.the-variants.{Edition, Kinds, Goal, Shift, Start, Gap, Pupils, Places, Jobs, Kind}
 use Rattle.number.specs.Readers.{Found, found, refused, Reader, _>>=_, _>>_, give, times}
 use Rattle.number.specs.Numbers.{number}
 use Rattle.fields.specs.Fields.{field, within}
@@ -19,7 +19,7 @@ use Rattle.queue.specs.Record.{rows, weightList, windows, kindList, wind
 abbrev pub window : Reader (ℕ × ℕ)
 window = do
   a ← number 3
-  b ← field 3 (λ b. windowOk (a, b)) Window
+  b ← field 3 (λ b. windowOk (a, b)) Places
   give (a, b)
 
 -- row i of the gaps stands from 5 × i on
@@ -55,7 +55,7 @@ headOf f rows weights windows = record {
 unfoldable pub tables : Settings → Reader Queue
 tables f = do
   rows ← times (f .kinds + 1) (times (f .kinds) (field 3 (within 0 65535) Gap))
-  weights ← times (f .kinds) (field 3 (within 0 1000) Weight)
+  weights ← times (f .kinds) (field 3 (within 0 1000) Pupils)
   windows ← times (f .kinds) window
   give (headOf f rows weights windows)
 

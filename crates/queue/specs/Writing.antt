@@ -2,7 +2,7 @@
 use Prim.Native.Nat.{ℕ}
 use mathlib.Core.List.{List, [], _∷_, _++_, flatMap}
 use lib.ListN.{length}
-use Rattle.refusal.specs.declared.Reason.the-variants.{Kinds, Goal, Shift, Start, Gap, Weight, Window, Jobs, Kind}
+use Rattle.refusal.specs.declared.Reason.the-variants.{Kinds, Goal, Shift, Start, Gap, Pupils, Places, Jobs, Kind}
 use Rattle.number.specs.Numbers.{encode}
 use Rattle.fields.specs.Fields.{within, all, encodeAll}
 use Rattle.fields.specs.Messages.{check, _before_, writeAnswer, bufferAfter}
@@ -43,8 +43,8 @@ judgeSettings q =
 unfoldable pub judgeTables : Queue → Verdict
 judgeTables q =
     check (all (all (within 0 65535)) (rows q)) Gap
-    before check (all (within 0 1000) (weightList q)) Weight
-    before check (all windowOk (windows q)) Window
+    before check (all (within 0 1000) (weightList q)) Pupils
+    before check (all windowOk (windows q)) Places
 
 -- from N to the allowed places
 unfoldable pub judgeHead : Queue → Verdict

@@ -6,7 +6,7 @@ use mathlib.Core.List.{List, [], _∷_}
 use native.Mathlib.Omega.{arith}
 use lib.ListN.{length-append}
 use borrow.Author.Tests.{lt-ltb}
-use Rattle.refusal.specs.declared.Reason.the-variants.{Edition, Kinds, Goal, Shift, Start, Gap, Weight, Window, Jobs, Kind}
+use Rattle.refusal.specs.declared.Reason.the-variants.{Edition, Kinds, Goal, Shift, Start, Gap, Pupils, Places, Jobs, Kind}
 use Rattle.number.specs.Numbers.{encode}
 use Rattle.number.proofs.Encoding.{length-encode}
 use Rattle.fields.specs.Fields.{within, all}
@@ -39,26 +39,26 @@ abbrev pub WindowOk : ℕ × ℕ → Type 0
 WindowOk w = (1 ≤ w .0) × (w .0 ≤ w .1) × (w .1 ≤ 60)
 
 -- judged after b_j
-abbrev pub windowFormat : {Given : Type 0} → Format (ℕ × ℕ) Given 2 6 (Window ∷ [])
+abbrev pub windowFormat : {Given : Type 0} → Format (ℕ × ℕ) Given 2 6 (Places ∷ [])
 windowFormat =
-    rejudged (andNext (anyNumber 3 (omega arith)) λ a. tested 3 (λ b. windowOk (a, b)) Window 1 (omega arith) (omega arith) (λ z b e. let k = good-window a b e in (omega arith, omega arith)))
+    rejudged (andNext (anyNumber 3 (omega arith)) λ a. tested 3 (λ b. windowOk (a, b)) Places 1 (omega arith) (omega arith) (λ z b e. let k = good-window a b e in (omega arith, omega arith)))
     (record {
       Ok = WindowOk;
       Sized = λ w. Unit;
-      judge = λ w. check (windowOk w) Window;
+      judge = λ w. check (windowOk w) Places;
       ok-is = λ z w. (λ k. good-window (w .0) (w .1) (k .1), λ k. (omega (arith, k), window-good (w .0) (w .1) (k .0) (k .1) (k .2)));
       short = λ z w k. omega (arith, length-append (encode (w .0)) (encode (w .1)), length-encode 1 (w .0) (omega arith) (omega (arith, k)), length-encode 1 (w .1) (omega arith) (omega (arith, k)));
-      accepts = λ z w _. (λ e. good-window (w .0) (w .1) (judged-accepts (windowOk w) Window .0 e), λ k. judged-accepts (windowOk w) Window .1 (window-good (w .0) (w .1) (k .0) (k .1) (k .2)));
+      accepts = λ z w _. (λ e. good-window (w .0) (w .1) (judged-accepts (windowOk w) Places .0 e), λ k. judged-accepts (windowOk w) Places .1 (window-good (w .0) (w .1) (k .0) (k .1) (k .2)));
       sized-is = λ w n. (tt, tt);
       judge-is = λ w k. rw (lt-ltb (w .0) (128 ^ 3) (k .0));
     })
 
 -- gap rows 0 to N (N numbers each), w_1 .. w_N, a_1 b_1 .. a_N b_N
-abbrev pub tablesFormat : {Given : Type 0} (n : ℕ) → (Given → n ≤ 5) → Format (List (List ℕ) × (List ℕ × List (ℕ × ℕ))) Given 110 114 (Gap ∷ Weight ∷ Window ∷ [])
+abbrev pub tablesFormat : {Given : Type 0} (n : ℕ) → (Given → n ≤ 5) → Format (List (List ℕ) × (List ℕ × List (ℕ × ℕ))) Given 110 114 (Gap ∷ Pupils ∷ Places ∷ [])
 tablesFormat n few =
     andNext (alike (numbers n 5 few 0 65535 Gap 3 (omega arith) (λ z. (omega arith, omega arith))) (all (within 0 65535)) Gap (λ row. refl) (n + 1) 6 (λ z. let k = few z in omega arith)) λ rows.
-    andNext (numbers n 5 (λ z. few (z .0)) 0 1000 Weight 2 (omega arith) (λ z. (omega arith, omega arith))) λ weights.
-    alike windowFormat windowOk Window (λ w. refl) n 5 (λ z. few (z .0 .0))
+    andNext (numbers n 5 (λ z. few (z .0)) 0 1000 Pupils 2 (omega arith) (λ z. (omega arith, omega arith))) λ weights.
+    alike windowFormat windowOk Places (λ w. refl) n 5 (λ z. few (z .0 .0))
 
 -- T, then the T kinds
 abbrev pub jobsFormat : {Given : Type 0} (n : ℕ) → (Given → n ≤ 5) → Format (ℕ × List ℕ) Given 61 63 (Jobs ∷ Kind ∷ [])
@@ -71,7 +71,7 @@ abbrev pub Parts : Type 0
 Parts = ℕ × (Settings × ((List (List ℕ) × (List ℕ × List (ℕ × ℕ))) × (ℕ × List ℕ)))
 
 -- edition 1, the settings, the tables, the jobs
-abbrev pub queueFormat : Format Parts (Unit {0}) 176 178 (Edition ∷ Kinds ∷ Goal ∷ Shift ∷ Start ∷ Gap ∷ Weight ∷ Window ∷ Jobs ∷ Kind ∷ [])
+abbrev pub queueFormat : Format Parts (Unit {0}) 176 178 (Edition ∷ Kinds ∷ Goal ∷ Shift ∷ Start ∷ Gap ∷ Pupils ∷ Places ∷ Jobs ∷ Kind ∷ [])
 queueFormat =
     andNext (oneByte 1 1 Edition (λ z. omega arith)) λ edition.
     andNext settingsFormat λ f.

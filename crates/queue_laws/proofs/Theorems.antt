@@ -10,7 +10,7 @@ use lib.Dec.{leb}
 use lib.ListN.{length, take}
 use borrow.Author.Tests.{leb-true}
 use Rattle.refusal.specs.declared.Reason.{Reason}
-use Rattle.refusal.specs.declared.Reason.the-variants.{Opening, Ends, Malformed, Edition, Kinds, Goal, Shift, Start, Gap, Weight, Window, Jobs, Kind, Trailing, Buffer, Table, Order, Job}
+use Rattle.refusal.specs.declared.Reason.the-variants.{Opening, Ends, Groups, Edition, Kinds, Goal, Shift, Start, Gap, Pupils, Places, Jobs, Kind, LeftOver, Buffer, Table, NoOrder, Job}
 use Rattle.refusal.specs.declared.Verdict.the-variants.{Accepted, Refused}
 use Rattle.refusal.specs.Reasons.{reasonNumber, needed}
 use Rattle.number.specs.Readers.{Found, found, refused}
@@ -104,19 +104,19 @@ refused-alike q r k j = ap (λ (f : Found Queue). asReading f .verdict) (queue-m
 pub message-needed : (r : Reason) → OfMessage r → needed r ≡ 0
 message-needed Opening h = refl
 message-needed Ends h = refl
-message-needed Malformed h = refl
+message-needed Groups h = refl
 message-needed Edition h = refl
 message-needed Kinds h = refl
 message-needed Goal h = refl
 message-needed Shift h = refl
 message-needed Start h = refl
 message-needed Gap h = refl
-message-needed Weight h = refl
-message-needed Window h = refl
+message-needed Pupils h = refl
+message-needed Places h = refl
 message-needed Jobs h = refl
 message-needed Kind h = refl
-message-needed Trailing h = refl
+message-needed LeftOver h = refl
 message-needed Buffer h = refl
 message-needed (Table n) h = absurd (omega arith)
-message-needed Order h = refl
+message-needed NoOrder h = refl
 message-needed Job h = refl

@@ -9,7 +9,7 @@ use Rattle.fields.specs.declared.Outcome.the-variants.{Next, Refused as Stopped
 use Rattle.queue.specs.declared.Queue.{Queue}
 use Rattle.queue.specs.declared.Settings.{Settings}
 use Rattle.queue_reader.specs.declared.Front.the-variants.{Known, Refused as Unknown}
-use Rattle.queue_reader.specs.declared.Places.the-variants.{Window, Refused as Closed}
+use Rattle.queue_reader.specs.declared.WindowRead.the-variants.{Window, Refused as Closed}
 use Rattle.queue_reader.specs.Answers.{asFront, asPlaces, asHead}
 
 pub as-known : (f : Found Settings) (t : Settings) (n : ℕ) → asFront f ≡ Known t n → f ≡ found t n

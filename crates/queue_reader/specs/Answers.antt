@@ -1,7 +1,7 @@
 -- What the answers of the reader's parts mean.
 use Prim.Native.Nat.{ℕ}
 use mathlib.Core.List.{List}
-use Rattle.refusal.specs.declared.Reason.the-variants.{Weight}
+use Rattle.refusal.specs.declared.Reason.the-variants.{Pupils}
 use Rattle.number.specs.Readers.{Found, found, refused, Reader, _>>=_, give, times}
 use Rattle.fields.specs.Fields.{field, within}
 use Rattle.fields.specs.declared.Outcome.{Outcome}
@@ -10,8 +10,8 @@ use Rattle.queue.specs.declared.Queue.{Queue}
 use Rattle.queue.specs.declared.Settings.{Settings}
 use Rattle.queue_reader.specs.declared.Front.{Front}
 use Rattle.queue_reader.specs.declared.Front.the-variants.{Known, Refused as Unknown}
-use Rattle.queue_reader.specs.declared.Places.{Places}
-use Rattle.queue_reader.specs.declared.Places.the-variants.{Window, Refused as Closed}
+use Rattle.queue_reader.specs.declared.WindowRead.{WindowRead}
+use Rattle.queue_reader.specs.declared.WindowRead.the-variants.{Window, Refused as Closed}
 use Rattle.queue_reader.specs.declared.Head.{Head}
 use Rattle.queue.specs.declared.Reading.{Reading}
 use Rattle.queue.specs.Reading.{window, closed, blank, asReading}
@@ -22,7 +22,7 @@ asFront (found f n) = Known f n
 asFront (refused r) = Unknown r
 
 -- a_j, b_j and the position behind them, or the refusal
-abbrev pub asPlaces : Found (ℕ × ℕ) → Places
+abbrev pub asPlaces : Found (ℕ × ℕ) → WindowRead
 asPlaces (found w n) = Window (w .0) (w .1) n
 asPlaces (refused r) = Closed r
 
@@ -34,7 +34,7 @@ asHead (refused r) = record { outcome = Stopped r; queue = blank }
 -- what follows the gaps in a head: w_1 .. w_N, a_1 b_1 .. a_N b_N
 unfoldable pub limits : ℕ → Reader (List ℕ × List (ℕ × ℕ))
 limits n = do
-  weights ← times n (field 3 (within 0 1000) Weight)
+  weights ← times n (field 3 (within 0 1000) Pupils)
   windows ← times n window
   give (weights, windows)
 

@@ -27,7 +27,7 @@ pub enum Front {
 }
 
 // What reading the allowed places of one kind finds: they and the position behind them, or the refusal.
-pub enum Places {
+pub enum WindowRead {
     Window { first: u32, last: u32, next: usize },
     Refused(Reason),
 }
@@ -134,24 +134,24 @@ fn is_window(first: u64, last: u64) -> bool
 }
 
 // The allowed places of one kind: both numbers are read before they are judged.
-fn read_window(bytes: &[u8], at: usize) -> Places
+fn read_window(bytes: &[u8], at: usize) -> WindowRead
     ensures { λ r. ⌜ r ≡ asPlaces (window (now (bytes .entry)) at) ⌝ }
 {
     match number::read_number(bytes, at, 3) {
-        Read::Refused(why) => return Places::Refused(why),
+        Read::Refused(why) => return WindowRead::Refused(why),
         Read::Value {
             value: first,
             next: a,
         } => match number::read_number(bytes, a, 3) {
-            Read::Refused(why) => return Places::Refused(why),
+            Read::Refused(why) => return WindowRead::Refused(why),
             Read::Value {
                 value: last,
                 next: b,
             } => {
                 if !is_window(first, last) {
-                    return Places::Refused(Reason::Window);
+                    return WindowRead::Refused(Reason::Places);
                 }
-                return Places::Window {
+                return WindowRead::Window {
                     first: first as u32,
                     last: last as u32,
                     next: b,
@@ -177,7 +177,7 @@ fn read_windows(
     let mut kind: usize = 0;
     while kind < kinds {
         match read_window(bytes, i) {
-            Places::Window {
+            WindowRead::Window {
                 first: from,
                 last: to,
                 next,
@@ -186,7 +186,7 @@ fn read_windows(
                 last[kind] = to;
                 i = next;
             }
-            Places::Refused(why) => {
+            WindowRead::Refused(why) => {
                 return Outcome::Refused(why);
             }
         }
@@ -210,7 +210,7 @@ fn read_limits(bytes: &[u8], at: usize, kinds: usize) -> Limits
         kinds,
         0,
         1000,
-        Reason::Weight,
+        Reason::Pupils,
         &mut weights,
         0,
     );
@@ -326,7 +326,7 @@ fn end_reading(bytes: &[u8], outcome: Outcome, queue: Queue) -> Reading
         Outcome::Refused(why) => return refused_reading(why),
         Outcome::Next(next) => {
             if next != bytes.len() {
-                return refused_reading(Reason::Trailing);
+                return refused_reading(Reason::LeftOver);
             }
             return Reading {
                 verdict: Verdict::Accepted,

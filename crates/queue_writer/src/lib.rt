@@ -116,12 +116,12 @@ fn judge_tables(queue: Queue) -> Verdict
     }
     let weights = queue.weights;
     if !all_within(&weights, 0, kinds, 0, 1000) {
-        return Verdict::Refused(Reason::Weight);
+        return Verdict::Refused(Reason::Pupils);
     }
     let first = queue.first_places;
     let last = queue.last_places;
     if !judge_windows(&first, &last, kinds) {
-        return Verdict::Refused(Reason::Window);
+        return Verdict::Refused(Reason::Places);
     }
     Verdict::Accepted
 }

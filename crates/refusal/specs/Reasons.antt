@@ -3,7 +3,7 @@ use Prim.Native.Nat.{ℕ}
 use mathlib.Core.Bool.{cond}
 use lib.Dec.{leb, eqb}
 use Rattle.refusal.specs.declared.Reason.{Reason}
-use Rattle.refusal.specs.declared.Reason.the-variants.{Opening, Ends, Malformed, Edition, Kinds, Goal, Shift, Start, Gap, Weight, Window, Jobs, Kind, Trailing, Buffer, Table, Order, Job}
+use Rattle.refusal.specs.declared.Reason.the-variants.{Opening, Ends, Groups, Edition, Kinds, Goal, Shift, Start, Gap, Pupils, Places, Jobs, Kind, LeftOver, Buffer, Table, NoOrder, Job}
 use Rattle.refusal.specs.declared.Group.{Group}
 use Rattle.refusal.specs.declared.Group.the-variants.{Message, Contents, Room, Order as InOrder, Unprinted}
 
@@ -11,63 +11,63 @@ use Rattle.refusal.specs.declared.Group.the-variants.{Message, Contents,
 abbrev pub reasonNumber : Reason → ℕ
 reasonNumber Opening = 1
 reasonNumber Ends = 2
-reasonNumber Malformed = 3
+reasonNumber Groups = 3
 reasonNumber Edition = 4
 reasonNumber Kinds = 5
 reasonNumber Goal = 6
 reasonNumber Shift = 7
 reasonNumber Start = 8
 reasonNumber Gap = 9
-reasonNumber Weight = 10
-reasonNumber Window = 11
+reasonNumber Pupils = 10
+reasonNumber Places = 11
 reasonNumber Jobs = 12
 reasonNumber Kind = 13
-reasonNumber Trailing = 14
+reasonNumber LeftOver = 14
 reasonNumber Buffer = 15
 reasonNumber (Table n) = 16
-reasonNumber Order = 17
+reasonNumber NoOrder = 17
 reasonNumber Job = 18
 
 -- the needed entries that the reason for 16 holds, else 0
 abbrev pub needed : Reason → ℕ
 needed Opening = 0
 needed Ends = 0
-needed Malformed = 0
+needed Groups = 0
 needed Edition = 0
 needed Kinds = 0
 needed Goal = 0
 needed Shift = 0
 needed Start = 0
 needed Gap = 0
-needed Weight = 0
-needed Window = 0
+needed Pupils = 0
+needed Places = 0
 needed Jobs = 0
 needed Kind = 0
-needed Trailing = 0
+needed LeftOver = 0
 needed Buffer = 0
 needed (Table n) = n
-needed Order = 0
+needed NoOrder = 0
 needed Job = 0
 
 -- G: `message` for 1 to 4 and 14, `contents` for 5 to 13, `room` for 15 and 16, `order` for 17
 abbrev pub reasonGroup : Reason → Group
 reasonGroup Opening = Message
 reasonGroup Ends = Message
-reasonGroup Malformed = Message
+reasonGroup Groups = Message
 reasonGroup Edition = Message
 reasonGroup Kinds = Contents
 reasonGroup Goal = Contents
 reasonGroup Shift = Contents
 reasonGroup Start = Contents
 reasonGroup Gap = Contents
-reasonGroup Weight = Contents
-reasonGroup Window = Contents
+reasonGroup Pupils = Contents
+reasonGroup Places = Contents
 reasonGroup Jobs = Contents
 reasonGroup Kind = Contents
-reasonGroup Trailing = Message
+reasonGroup LeftOver = Message
 reasonGroup Buffer = Room
 reasonGroup (Table n) = Room
-reasonGroup Order = InOrder
+reasonGroup NoOrder = InOrder
 reasonGroup Job = Unprinted
 
 -- the same by number

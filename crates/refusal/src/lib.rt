@@ -9,7 +9,7 @@ pub enum Reason {
     // 2: the bytes end before a number's last group.
     Ends,
     // 3: a byte 00 ends a number of several groups, or the last group permitted has bit 7 set.
-    Malformed,
+    Groups,
     // 4: the edition is not 1.
     Edition,
     // 5: the number of kinds is not 1 to 5.
@@ -23,21 +23,21 @@ pub enum Reason {
     // 9: a gap is over 65535.
     Gap,
     // 10: a weight is over 1000.
-    Weight,
+    Pupils,
     // 11: a first place is 0, a last place is before its first place, or over 60.
-    Window,
+    Places,
     // 12: the number of jobs is over 60.
     Jobs,
     // 13: a job's kind is 0 or over the number of kinds.
     Kind,
     // 14: bytes are left over after the last number.
-    Trailing,
+    LeftOver,
     // 15: the buffer is too short.
     Buffer,
     // 16: the table has fewer entries than are needed, which it carries.
     Table(u64),
     // 17: no order is permitted.
-    Order,
+    NoOrder,
     // 18: a job in a plan is 0, over the number of jobs, or at an earlier place.
     Job,
 }
@@ -79,21 +79,21 @@ pub fn reason_number(reason: Reason) -> u64
     match reason {
         Reason::Opening => 1,
         Reason::Ends => 2,
-        Reason::Malformed => 3,
+        Reason::Groups => 3,
         Reason::Edition => 4,
         Reason::Kinds => 5,
         Reason::Goal => 6,
         Reason::Shift => 7,
         Reason::Start => 8,
         Reason::Gap => 9,
-        Reason::Weight => 10,
-        Reason::Window => 11,
+        Reason::Pupils => 10,
+        Reason::Places => 11,
         Reason::Jobs => 12,
         Reason::Kind => 13,
-        Reason::Trailing => 14,
+        Reason::LeftOver => 14,
         Reason::Buffer => 15,
         Reason::Table(_) => 16,
-        Reason::Order => 17,
+        Reason::NoOrder => 17,
         Reason::Job => 18,
     }
 }

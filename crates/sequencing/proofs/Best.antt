@@ -10,7 +10,7 @@ use lib.ListN.{length, length-map}
 use Rattle.sequencing.specs.Lists.{at, upto, sum, count}
 use Rattle.sequencing.specs.Problem.{Problem, T, kind, Proper, Exchange}
 use Rattle.sequencing.specs.Orders.{IsOrder, Permitted, cost}
-use Rattle.sequencing.specs.States.{K, all, place, byHandIn}
+use Rattle.sequencing.specs.States.{K, allLeft, place, byHandIn}
 use Rattle.sequencing.specs.Recursion.{W, planCost, planKinds, planOrder}
 use Rattle.sequencing.proofs.Counting.{from-in, from-le, from-pos}
 use Rattle.sequencing.proofs.Orders.{order-counts}
@@ -23,41 +23,41 @@ use Rattle.sequencing.proofs.Options.{Upto}
 use Rattle.sequencing.proofs.Recursion.{walk-is, cost-upto}
 
 module _ (P : Problem) (proper : Proper P) where
-  start-counts : (z : ℕ) → count z (left P (kind P z) (all P)) ≡ count z (upto (T P))
+  start-counts : (z : ℕ) → count z (left P (kind P z) (allLeft P)) ≡ count z (upto (T P))
   unfolding left
   start-counts z = elim (eq-zero-or-pos (count z (upto (T P)))) [
-    | inl e ↦ omega (arith, left-count P (all P) z)
+    | inl e ↦ omega (arith, left-count P (allLeft P) z)
     | inr h ↦ (let q = from-in z 1 (T P) h in
         let w = proper z (q .0) (omega arith) in
-        let e : K P (kind P z) - at (all P) (kind P z) ≡ 0 = omega (arith, at-all P (kind P z) (w .0) (w .1)) in
+        let e : K P (kind P z) - at (allLeft P) (kind P z) ≡ 0 = omega (arith, at-all P (kind P z) (w .0) (w .1)) in
         rw e (jobs-count P z))
   ]
 
-  place-start : suc (place P (all P)) ≡ 1
+  place-start : suc (place P (allLeft P)) ≡ 1
   place-start = omega (arith, sum-all P proper)
 
   -- ---- a sequence that fills gives an order
 
-  module _ (xs : List ℕ) (f : Fills P (all P) xs) where
-    start-filled : Filled P (all P) xs
-    start-filled = filled P (all P) xs (all-left P) f
+  module _ (xs : List ℕ) (f : Fills P (allLeft P) xs) where
+    start-filled : Filled P (allLeft P) xs
+    start-filled = filled P (allLeft P) xs (all-left P) f
 
-    is-order : IsOrder P (byHandIn P (all P) xs)
+    is-order : IsOrder P (byHandIn P (allLeft P) xs)
     is-order = record {
       whole = omega (arith, simp length-map at (ap length (start-filled .kinds)), start-filled .long, sum-all P proper);
       once = λ i l u. omega (arith, start-filled .counts i, start-counts i, from-le i 1 (T P), from-pos i 1 (T P) l (omega arith));
     }
 
-    is-permitted : Permitted P (byHandIn P (all P) xs)
+    is-permitted : Permitted P (byHandIn P (allLeft P) xs)
     is-permitted = record { places = rw place-start at (start-filled .permitted) }
 
-    costs : cost P (byHandIn P (all P) xs) ≡ bySteps P (W P) (P .start) (all P) xs
-    costs = cost-is P (byHandIn P (all P) xs) (all P) (rw (start-filled .kinds) f) ∙ ap (bySteps P (W P) (P .start) (all P)) (start-filled .kinds)
+    costs : cost P (byHandIn P (allLeft P) xs) ≡ bySteps P (W P) (P .start) (allLeft P) xs
+    costs = cost-is P (byHandIn P (allLeft P) xs) (allLeft P) (rw (start-filled .kinds) f) ∙ ap (bySteps P (W P) (P .start) (allLeft P)) (start-filled .kinds)
 
   module _ (c : ℕ) (e : planCost P ≡ some c) where
-    plan-fills : Fills P (all P) (planKinds P) × (c ≡ bySteps P (W P) (P .start) (all P) (planKinds P))
+    plan-fills : Fills P (allLeft P) (planKinds P) × (c ≡ bySteps P (W P) (P .start) (allLeft P) (planKinds P))
     unfolding planCost planKinds
-    plan-fills = walk-is P (sum (all P)) (P .start) (all P) c refl e
+    plan-fills = walk-is P (sum (allLeft P)) (P .start) (allLeft P) c refl e
 
     -- the plan's kinds are those of its order
     pub plan-kinds : map (kind P) (planOrder P) ≡ planKinds P
@@ -73,12 +73,12 @@ module _ (P : Problem) (proper : Proper P) where
 
   module _ (ex : Exchange P) where
     module _ (o : List ℕ) (i : IsOrder P o) (p : Permitted P o) where
-      pub order-fills : Fills P (all P) (map (kind P) o)
-      order-fills = fills P ex (T P) (all P) o (sum-all P proper) (i .whole) (all-left P) (λ z. order-counts P o i z ∙ sym (start-counts z)) (rw place-start (p .places))
+      pub order-fills : Fills P (allLeft P) (map (kind P) o)
+      order-fills = fills P ex (T P) (allLeft P) o (sum-all P proper) (i .whole) (all-left P) (λ z. order-counts P o i z ∙ sym (start-counts z)) (rw place-start (p .places))
 
       order-upto : Upto (cost P o) (planCost P)
       unfolding planCost
-      order-upto = rw (cost-is P o (all P) order-fills) (cost-upto P (sum (all P)) (P .start) (all P) (map (kind P) o) refl (all-left P) order-fills)
+      order-upto = rw (cost-is P o (allLeft P) order-fills) (cost-upto P (sum (allLeft P)) (P .start) (allLeft P) (map (kind P) o) refl (all-left P) order-fills)
 
     -- Demand 3: every permitted order costs at least as much, those included that exchange jobs of one kind
     pub plan-least : (c : ℕ) → planCost P ≡ some c → (o : List ℕ) → IsOrder P o → Permitted P o → c ≤ cost P o

@@ -10,7 +10,7 @@ use lib.Dec.{eqb}
 use lib.ListN.{length}
 use Rattle.sequencing.specs.Lists.{at, sum, weigh}
 use Rattle.sequencing.specs.Problem.{Problem, T}
-use Rattle.sequencing.specs.States.{complete, all, IsLeft, IsPair}
+use Rattle.sequencing.specs.States.{complete, allLeft, IsLeft, IsPair}
 use Rattle.sequencing.specs.Least.{argLeast}
 use Rattle.sequencing.specs.Recursion.{W, costToGo, value, choice, planCost}
 use Rattle.sequencing.specs.Limits.{Limits, triangle, valueLimit}
@@ -80,9 +80,9 @@ module _ (P : Problem) (g w : ℕ) (b : Limits P g w) where
       rw q (step-le L k x d l s h (value-le x (complete k x) d (next-pair P k x s h) v))
 
   -- nor is the plan's cost
-  pub plan-le : (c : ℕ) → planCost P ≡ some c → c ≤ triangle (sum (all P)) * (w * g)
+  pub plan-le : (c : ℕ) → planCost P ≡ some c → c ≤ triangle (sum (allLeft P)) * (w * g)
   unfolding planCost
-  plan-le c e = cost-le (sum (all P)) (P .start) (all P) c refl (b .start) (all-left P) e
+  plan-le c e = cost-le (sum (allLeft P)) (P .start) (allLeft P) c refl (b .start) (all-left P) e
 
 within-limit : (P : Problem) → T P ≤ 60 → (k : List ℕ) → IsLeft P k → (c : ℕ) → c ≤ triangle (sum k) * (1000 * 65535) → c ≤ valueLimit
 unfolding triangle
@@ -97,7 +97,7 @@ module _ (P : Problem) (b : Limits P 65535 1000) (t : T P ≤ 60) where
   choice-limit L k x c l s e = within-limit P t k s c (choice-le P 65535 1000 b L k x c l s e)
 
   pub plan-limit : (c : ℕ) → planCost P ≡ some c → c ≤ valueLimit
-  plan-limit c e = within-limit P t (all P) (all-left P) c (plan-le P 65535 1000 b c e)
+  plan-limit c e = within-limit P t (allLeft P) (all-left P) c (plan-le P 65535 1000 b c e)
 
 -- so they fit six groups of seven bits, and no value is 2^64 − 1
 pub limit-fits : (valueLimit < 2 ^ 42) × (valueLimit < 2 ^ 64 - 1)

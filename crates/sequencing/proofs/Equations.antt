@@ -8,7 +8,7 @@ use native.Mathlib.Omega.{arith}
 use lib.Dec.{ltb, ltb→lt}
 use Rattle.sequencing.specs.Lists.{at, sum}
 use Rattle.sequencing.specs.Problem.{Problem}
-use Rattle.sequencing.specs.States.{complete, K, all}
+use Rattle.sequencing.specs.States.{complete, K, allLeft}
 use Rattle.sequencing.specs.Least.{least}
 use Rattle.sequencing.specs.Recursion.{permit, step, toGo, costToGo, value, choice, planCost}
 use Rattle.sequencing.proofs.Counting.{bool-cases}
@@ -52,10 +52,10 @@ module _ (P : Problem) where
     value-some-left h = ap (permit P L k) (cost-some-left h)
 
   -- 01: the plan's cost comes from the same rule with L = s and all K_j left
-  pub plan-none-left : sum (all P) ≡ 0 → planCost P ≡ some 0
+  pub plan-none-left : sum (allLeft P) ≡ 0 → planCost P ≡ some 0
   unfolding planCost toGo
   plan-none-left e = rw e refl
 
-  pub plan-some-left : 0 < sum (all P) → planCost P ≡ least (choice P (P .start) (all P)) (P .N)
+  pub plan-some-left : 0 < sum (allLeft P) → planCost P ≡ least (choice P (P .start) (allLeft P)) (P .N)
   unfolding planCost
-  plan-some-left h = cost-some-left (P .start) (all P) h
+  plan-some-left h = cost-some-left (P .start) (allLeft P) h

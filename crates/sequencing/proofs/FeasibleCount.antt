@@ -11,7 +11,7 @@ use Rattle.sequencing.specs.Problem.{Problem}
 use Rattle.sequencing.specs.States.{IsState}
 use Rattle.sequencing.specs.Feasible.{Feasible}
 use Rattle.sequencing.specs.Entries.{entries, number, entryKind, entryLeft, entry}
-use Rattle.sequencing.specs.Counts.{NoRepeats, CountsFeasible, found, feasibleStates}
+use Rattle.sequencing.specs.Counts.{NoRepeats, CountsFeasible, valued, feasibleStates}
 use Rattle.sequencing.proofs.Counting.{one-cases}
 use Rattle.sequencing.proofs.Options.{none-some}
 use Rattle.sequencing.proofs.FeasibleStates.{state-of, feasible-is}
@@ -41,7 +41,7 @@ module _ {A : Type 0} (y : A) (ys : List A) where
   keep-distinct none h d = d
   keep-distinct (some c) h d = (h, d)
 
-  keep-length : (r : Option ℕ) → length (keep r y ys) ≡ length ys + found r
+  keep-length : (r : Option ℕ) → length (keep r y ys) ≡ length ys + valued r
   keep-length none = omega arith
   keep-length (some c) = omega arith
 
@@ -54,7 +54,7 @@ module _ (P : Problem) where
   holding zero = []
   holding (suc n) = keep (entry P n) (pairOf n) (holding n)
 
-  holding-length : (n : ℕ) → length (holding n) ≡ sumBelow (λ n. found (entry P n)) n
+  holding-length : (n : ℕ) → length (holding n) ≡ sumBelow (λ n. valued (entry P n)) n
   unfolding holding sumBelow
   holding-length zero = refl
   holding-length (suc n) = omega (arith, keep-length (pairOf n) (holding n) (entry P n), holding-length n)

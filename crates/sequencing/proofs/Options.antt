@@ -6,7 +6,7 @@ use Prim.Native.Nat.{ℕ, _+_, _≤_}
 use native.Mathlib.Omega.{arith}
 use lib.Dec.{T as Is}
 use Rattle.sequencing.specs.Least.{only, plus, lower}
-use Rattle.sequencing.specs.Counts.{found}
+use Rattle.sequencing.specs.Counts.{valued}
 
 pub some-eq : (a b : ℕ) → some a ≡ some b → a ≡ b
 some-eq a b e = cc
@@ -46,6 +46,6 @@ upto-right c none b p = p
 upto-right c (some a) none p = absurd p
 upto-right c (some a) (some b) p = omega arith
 
-pub found-most : (r : Option ℕ) → found r ≤ 1
+pub found-most : (r : Option ℕ) → valued r ≤ 1
 found-most none = omega arith
 found-most (some c) = omega arith

@@ -8,7 +8,7 @@ use native.Mathlib.Omega.{arith}
 use Rattle.sequencing.specs.Lists.{sum}
 use Rattle.sequencing.specs.Problem.{Problem, kind, Proper, Exchange}
 use Rattle.sequencing.specs.Orders.{IsOrder, Permitted, cost}
-use Rattle.sequencing.specs.States.{complete, all, IsLeft}
+use Rattle.sequencing.specs.States.{complete, allLeft, IsLeft}
 use Rattle.sequencing.specs.Least.{argLeast}
 use Rattle.sequencing.specs.Recursion.{W, costToGo, choice, walk, planCost, planKinds}
 use Rattle.sequencing.specs.Ties.{TieRule, Precedes}
@@ -39,9 +39,9 @@ module _ (P : Problem) where
       (c, e, m, walk-ties n x (complete k x) d (omega (arith, complete-sum k x h)) (value-some P x (complete k x) d v .2))
 
   -- 01's tie rule: at every place of the plan the kind taken reaches the least of its state, and no smaller kind does
-  pub tie-rule : (c : ℕ) → planCost P ≡ some c → TieRule P (P .start) (all P) (planKinds P)
+  pub tie-rule : (c : ℕ) → planCost P ≡ some c → TieRule P (P .start) (allLeft P) (planKinds P)
   unfolding planCost planKinds
-  tie-rule c e = walk-ties (sum (all P)) (P .start) (all P) c refl e
+  tie-rule c e = walk-ties (sum (allLeft P)) (P .start) (allLeft P) c refl e
 
   walk-first : (n L : ℕ) (k : List ℕ) (c : ℕ) (ys : List ℕ) → sum k ≡ n → costToGo P L k ≡ some c → IsLeft P k → Fills P k ys → bySteps P (W P) L k ys ≡ c → Precedes (walk P n L k) ys
   unfolding walk Precedes Fills bySteps
@@ -66,4 +66,4 @@ module _ (P : Problem) where
   unfolding planCost planKinds
   plan-first w ex c e o i p q =
       let f = order-fills P w ex o i p in
-      walk-first (sum (all P)) (P .start) (all P) c (map (kind P) o) refl e (all-left P) f (sym (cost-is P o (all P) f) ∙ q)
+      walk-first (sum (allLeft P)) (P .start) (allLeft P) c (map (kind P) o) refl e (all-left P) f (sym (cost-is P o (allLeft P) f) ∙ q)

@@ -24,10 +24,10 @@ pub record CountsFeasible (P : Problem) (n : ℕ) : Type 0 where
   pub many : length states ≡ n
 
 -- 1 for a value, 0 for none
-abbrev pub found : Option ℕ → ℕ
-found none = 0
-found (some c) = 1
+abbrev pub valued : Option ℕ → ℕ
+valued none = 0
+valued (some c) = 1
 
 -- the number of entries that hold a value
 unfoldable pub feasibleStates : Problem → ℕ
-feasibleStates P = sumBelow (λ n. found (entry P n)) (entries P)
+feasibleStates P = sumBelow (λ n. valued (entry P n)) (entries P)

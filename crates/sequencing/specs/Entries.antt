@@ -3,7 +3,7 @@ use mathlib.Core.List.{List, [], _∷_}
 use mathlib.Core.Option.{Option, none, some}
 use Prim.Native.Nat.{ℕ, zero, suc, pred, _+_, _*_, _/_, _%_, _-_, _^_}
 use Rattle.sequencing.specs.Problem.{Problem}
-use Rattle.sequencing.specs.States.{all}
+use Rattle.sequencing.specs.States.{allLeft}
 use Rattle.sequencing.specs.Recursion.{value}
 
 -- the product of all (c_j + 1)
@@ -37,7 +37,7 @@ stored (some c) = c
 module _ (P : Problem) where
   -- 01's P
   abbrev pub block : ℕ
-  block = size (all P)
+  block = size (allLeft P)
 
   -- 01's N × P
   abbrev pub entries : ℕ
@@ -45,7 +45,7 @@ module _ (P : Problem) where
 
   -- where (L; k) stands, by 01's formula: (L − 1) × P + k_1 + (K_1 + 1) × (k_2 + ..)
   unfoldable pub number : ℕ → List ℕ → ℕ
-  number L k = pred L * block + index (all P) k
+  number L k = pred L * block + index (allLeft P) k
 
   -- L of the pair whose entry is n
   unfoldable pub entryKind : ℕ → ℕ
@@ -53,7 +53,7 @@ module _ (P : Problem) where
 
   -- k of that pair
   unfoldable pub entryLeft : ℕ → List ℕ
-  entryLeft n = digits (all P) (n % block)
+  entryLeft n = digits (allLeft P) (n % block)
 
   -- the value that entry n holds: its pair's, none where that is none, so also where k_L = K_L
   abbrev pub entry : ℕ → Option ℕ

@@ -6,7 +6,7 @@ use Prim.Native.Nat.{ℕ, zero, suc, _*_}
 use lib.Dec.{ltb, eqb}
 use Rattle.sequencing.specs.Lists.{at, sum, weigh}
 use Rattle.sequencing.specs.Problem.{Problem}
-use Rattle.sequencing.specs.States.{complete, K, all, job, place, byHandIn}
+use Rattle.sequencing.specs.States.{complete, K, allLeft, job, place, byHandIn}
 use Rattle.sequencing.specs.Least.{only, plus, least, argLeast}
 
 module _ (P : Problem) where
@@ -48,12 +48,12 @@ module _ (P : Problem) where
 
   -- the plan's cost: the same rule with L = s and all jobs left
   unfoldable pub planCost : Option ℕ
-  planCost = costToGo (P .start) (all P)
+  planCost = costToGo (P .start) (allLeft P)
 
   -- the plan's kinds, place by place
   unfoldable pub planKinds : List ℕ
-  planKinds = walk (sum (all P)) (P .start) (all P)
+  planKinds = walk (sum (allLeft P)) (P .start) (allLeft P)
 
   -- the plan's order: each kind by hand-in
   unfoldable pub planOrder : List ℕ
-  planOrder = byHandIn P (all P) planKinds
+  planOrder = byHandIn P (allLeft P) planKinds

@@ -22,8 +22,8 @@ module _ (P : Problem) where
   K j = length (jobsOf j)
 
   -- all K_j left: k at the start
-  unfoldable pub all : List ℕ
-  all = map K (upto (P .N))
+  unfoldable pub allLeft : List ℕ
+  allLeft = map K (upto (P .N))
 
   -- k of a state: 0 ≤ k_j ≤ K_j for each of the N kinds (k_j is 0 for any other j)
   pub record IsLeft (k : List ℕ) : Type 0 where

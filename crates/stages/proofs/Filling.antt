@@ -16,17 +16,17 @@ use lib.Seq.{getD-set-same, getD-set-other}
 use borrow.Author.Count.{below-more}
 use Rattle.sequencing.specs.Lists.{at, sumBelow}
 use Rattle.sequencing.specs.Least.{least}
-use Rattle.sequencing.specs.Counts.{found}
+use Rattle.sequencing.specs.Counts.{valued}
 use Rattle.sequencing.specs.Entries.{stored}
-use Rattle.table.specs.Entries.{loaded, candidate, filling, Ready}
-use Rattle.table.proofs.Stored.{Fits, fits-only, fits-cond, fits-least, loaded-stored}
-use Rattle.table.proofs.Candidates.{candidate-fits}
+use Rattle.next_states.specs.Entries.{loaded, candidate, filling, Ready}
+use Rattle.next_states.proofs.Stored.{Fits, fits-only, fits-cond, fits-least, loaded-stored}
+use Rattle.next_states.proofs.Candidates.{candidate-fits}
 
 -- an entry stands in one block
 same-block : (p q j l i : ℕ) → j < p → i < p → q * p + j ≡ l * p + i → q ≡ l
 same-block p q j l i hj hi e = sym (digits-div q hj) ∙ ap (λ (k : ℕ). k / p) e ∙ digits-div l hi
 
-found-one : (r : Option ℕ) → found r ≤ 1
+found-one : (r : Option ℕ) → valued r ≤ 1
 found-one none = omega arith
 found-one (some c) = omega arith
 
@@ -48,7 +48,7 @@ module _ (table₀ next earliest latest gaps : List ℕ) (kinds block index weig
     pub long : length table ≡ length table₀
     pub done : (l : ℕ) → l < kind → getD table (l * block + index) 0 ≡ stored (valueOf (l + 1))
     pub rest : (n : ℕ) → ((l : ℕ) → l < kind → n ≢ l * block + index) → getD table n 0 ≡ getD table₀ n 0
-    pub many : feasible ≡ sumBelow (λ l. found (valueOf (l + 1))) kind
+    pub many : feasible ≡ sumBelow (λ l. valued (valueOf (l + 1))) kind
     pub at-most : feasible ≤ kind
 
   pub filling-none : FillingStates table₀ 0 0
@@ -74,12 +74,12 @@ module _ (table₀ next earliest latest gaps : List ℕ) (kinds block index weig
       filling-in = rw (w .long) (lt-of-lt-of-le (digits-lt h i) room)
 
       pub filling-more : (value : ℕ) → value ≡ stored (filling next gaps weight remaining (leb (getD earliest kind 0) place && leb place (getD latest kind 0)) (kind + 1))
-          → FillingStates (set table (kind * block + index) value) (feasible + found (loaded value)) (kind + 1)
+          → FillingStates (set table (kind * block + index) value) (feasible + valued (loaded value)) (kind + 1)
       filling-more value got =
           let first : at earliest (kind + 1) ≡ getD earliest kind 0 = rw add-one in
           let last : at latest (kind + 1) ≡ getD latest kind 0 = rw add-one in
           let e : value ≡ stored (valueOf (kind + 1)) = rw (first, last) got in
-          let one : found (loaded value) ≡ found (valueOf (kind + 1)) = rw e (ap found (loaded-stored (valueOf (kind + 1)) (value-fits (kind + 1) r))) in
+          let one : valued (loaded value) ≡ valued (valueOf (kind + 1)) = rw e (ap valued (loaded-stored (valueOf (kind + 1)) (value-fits (kind + 1) r))) in
           let at = kind * block + index in
           record {
             few = omega arith;
@@ -89,14 +89,14 @@ module _ (table₀ next earliest latest gaps : List ℕ) (kinds block index weig
                 (λ l u. getD-set-other table at (l * block + index) value 0 (λ q. omega (arith, same-block block l index kind index i i q)) ∙ w .done l u)
                 (getD-set-same table at value 0 filling-in ∙ e);
             rest = λ n other. getD-set-other table at n value 0 (other kind (omega arith)) ∙ w .rest n (λ l u. other l (omega arith));
-            many = omega (arith, one, w .many, sum-more (λ l. found (valueOf (l + 1))) kind);
+            many = omega (arith, one, w .many, sum-more (λ l. valued (valueOf (l + 1))) kind);
             at-most = omega (arith, one, found-one (valueOf (kind + 1)), w .at-most);
           }
 
     pub filling-done : kinds ≤ kind → (length table ≡ length table₀)
         × (((L : ℕ) → 1 ≤ L → L ≤ kinds → getD table ((L - 1) * block + index) 0 ≡ stored (valueOf L))
         × (((n : ℕ) → ((L : ℕ) → 1 ≤ L → L ≤ kinds → n ≡ (L - 1) * block + index → ⊥) → getD table n 0 ≡ getD table₀ n 0)
-        × (feasible ≡ sumBelow (λ l. found (valueOf (l + 1))) kinds)))
+        × (feasible ≡ sumBelow (λ l. valued (valueOf (l + 1))) kinds)))
     filling-done h =
         let e : kind ≡ kinds = omega (arith, w .few) in (
           w .long,

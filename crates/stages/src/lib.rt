@@ -5,9 +5,9 @@ ghost use mathlib.Core.Bool.{_&&_};
 ghost use lib.Dec.{leb};
 ghost use lib.ListN.{length, getD};
 ghost use Rattle.sequencing.specs.Lists.{at, sumBelow};
-ghost use Rattle.sequencing.specs.Counts.{found};
+ghost use Rattle.sequencing.specs.Counts.{valued};
 ghost use Rattle.sequencing.specs.Entries.{stored};
-ghost use Rattle.table.specs.Entries.{loaded, filling, Ready};
+ghost use Rattle.next_states.specs.Entries.{loaded, filling, Ready};
 
 // The numbers of one k that all its states share.
 pub struct Stage {
@@ -38,24 +38,24 @@ fn state_value(
     ensures { λ r. ⌜ r ≡ stored (filling (now (next .entry)) (now (gaps .entry)) (stage .weight) (stage .remaining) (leb earliest (stage .place) && leb (stage .place) latest) kind) ⌝ }
 {
     if stage.place < earliest {
-        return table::NONE;
+        return next_states::NONE;
     }
     if latest < stage.place {
-        return table::NONE;
+        return next_states::NONE;
     }
     if stage.remaining == 0 {
         return 0;
     }
-    let best = table::least_of(next, gaps, kind, stage.goal, stage.weight);
+    let best = next_states::least_of(next, gaps, kind, stage.goal, stage.weight);
     best.cost
 }
 
 // The count with one more where there is a value.
 fn counted(feasible: u64, value: u64) -> u64
     requires { ⌜ feasible < 2 ^ 63 ⌝ }
-    ensures { λ r. ⌜ r ≡ feasible + found (loaded value) ⌝ }
+    ensures { λ r. ⌜ r ≡ feasible + valued (loaded value) ⌝ }
 {
-    if value == table::NONE {
+    if value == next_states::NONE {
         feasible
     } else {
         feasible + 1
@@ -75,7 +75,7 @@ pub fn fill_states(
     ensures { λ _. ⌜ length (now (table .exit)) ≡ length (now (table .entry)) ⌝ }
     ensures { λ _. ⌜ ((L : ℕ) → 1 ≤ L → L ≤ stage .kinds → getD (now (table .exit)) ((L - 1) * stage .block + stage .index) 0 ≡ stored (filling (now (next .entry)) (now (gaps .entry)) (stage .weight) (stage .remaining) (leb (at (now (earliest .entry)) L) (stage .place) && leb (stage .place) (at (now (latest .entry)) L)) L)) ⌝ }
     ensures { λ _. ⌜ ((n : ℕ) → ((L : ℕ) → 1 ≤ L → L ≤ stage .kinds → n ≡ (L - 1) * stage .block + stage .index → ⊥) → getD (now (table .exit)) n 0 ≡ getD (now (table .entry)) n 0) ⌝ }
-    ensures { λ r. ⌜ r ≡ sumBelow (λ l. found (filling (now (next .entry)) (now (gaps .entry)) (stage .weight) (stage .remaining) (leb (at (now (earliest .entry)) (l + 1)) (stage .place) && leb (stage .place) (at (now (latest .entry)) (l + 1))) (l + 1))) (stage .kinds) ⌝ }
+    ensures { λ r. ⌜ r ≡ sumBelow (λ l. valued (filling (now (next .entry)) (now (gaps .entry)) (stage .weight) (stage .remaining) (leb (at (now (earliest .entry)) (l + 1)) (stage .place) && leb (stage .place) (at (now (latest .entry)) (l + 1))) (l + 1))) (stage .kinds) ⌝ }
 {
     let kinds = stage.kinds;
     let block = stage.block;

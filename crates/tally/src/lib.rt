@@ -4,8 +4,8 @@ ghost use mathlib.Core.Path.{_≡_};
 ghost use lib.ListN.{length};
 ghost use Rattle.refusal.specs.Answers.{answerNumber};
 ghost use Rattle.queue.specs.Reading.{readQueue};
-ghost use Rattle.planning.specs.Planning.{ending, answerOf, Leaves};
-ghost use Rattle.planning.specs.BestOrder.{BestOrder};
+ghost use Rattle.best_order.specs.Planning.{ending, answerOf, Leaves};
+ghost use Rattle.best_order.specs.BestOrder.{BestOrder};
 ghost use Rattle.tally.specs.Tally.{raised, tallied};
 
 // How many calls ended in a plan, and how many in a refusal.

@@ -5,8 +5,8 @@ use mathlib.Core.Path.{sym, _∙_}
 use native.Mathlib.Omega.{arith}
 use lib.ListN.{take}
 use Rattle.problem.proofs.Sizes.{block-fits}
-use Rattle.states.specs.Steps.{Summed}
-use Rattle.setup.proofs.Preparing.{counts-few}
+use Rattle.jobs_left.specs.Steps.{Summed}
+use Rattle.layout.proofs.Preparing.{counts-few}
 use Rattle.filling.proofs.Carried.{Windows, windows-none, sums-none, windows-set, windows-step}
 use Rattle.filling.proofs.Filled.{Sized, Filled, filled-none, sums-fit, staged, filled-more, count-fits, filled-table, filled-count}
 use borrow.Author.Needs.{needs}

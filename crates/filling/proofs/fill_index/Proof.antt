@@ -3,7 +3,7 @@
 use Prim.Native.Nat.{_+_}
 use mathlib.Core.Path.{ap, _∙_}
 use borrow.Author.Tests.{eq-eqb}
-use Rattle.sequencing.specs.Counts.{found}
+use Rattle.sequencing.specs.Counts.{valued}
 use Rattle.sequencing.proofs.Sums.{sum-same}
 use Rattle.sequencing.specs.Entries.{stored}
 use Rattle.filling.specs.Staged.{Arrays}
@@ -33,7 +33,7 @@ returns c =
     } in
     let fill = c .before .before .fill-states .ensures in
     let entry = stage-entry (args .table .now) a (args .shape) _ _ (c .before .before .before .before .before .load-next .ensures) (c .before .before .before .before .before .before .before .before .stage-weight .ensures) in
-    (fill .0, ((λ L l u. fill .1 .0 L l u ∙ ap stored (entry L)), (fill .1 .1 .0, fill .1 .1 .1 ∙ sum-same _ _ _ (λ l u. ap found (entry (l + 1))))))
+    (fill .0, ((λ L l u. fill .1 .0 L l u ∙ ap stored (entry L)), (fill .1 .1 .0, fill .1 .1 .1 ∙ sum-same _ _ _ (λ l u. ap valued (entry (l + 1))))))
 
 pub fill-index-spec : {M : Type 1} → statement M
 fill-index-spec =

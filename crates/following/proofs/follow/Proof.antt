@@ -2,7 +2,7 @@
 -- Assumes nothing.
 use Prim.Native.Nat.{_-_}
 use native.Mathlib.Omega.{arith}
-use Rattle.solving.proofs.Start.{some-block}
+use Rattle.solver.proofs.Start.{some-block}
 use Rattle.following.proofs.Following.{On, Taking, on-start, on-end, taking}
 use borrow.Author.Needs.{needs}
 use Rattle.following.proofs.follow.Statement.{statement}

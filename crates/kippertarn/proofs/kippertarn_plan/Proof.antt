@@ -2,7 +2,7 @@
 -- Assumes nothing.
 use mathlib.Core.Path.{ap, _∙_}
 use Rattle.refusal.specs.Answers.{answerNumber}
-use Rattle.planning.proofs.Answers.{answer-fits}
+use Rattle.best_order.proofs.Answers.{answer-fits}
 use borrow.Author.Needs.{needs}
 use Rattle.kippertarn.proofs.kippertarn_plan.Statement.{statement}
 use Rattle.kippertarn.proofs.kippertarn_plan.Tie as tie

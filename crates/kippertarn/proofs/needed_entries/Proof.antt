@@ -7,7 +7,7 @@ use types.Run.{OneOf, miss}
 use denote.Enum.Declared.{tagOf}
 use Rattle.refusal.proofs.Reason.{the-type}
 use Rattle.refusal.specs.declared.Reason.{Reason}
-use Rattle.refusal.specs.declared.Reason.the-variants.{Opening, Ends, Malformed, Edition, Kinds, Goal, Shift, Start, Gap, Weight, Window, Jobs, Kind, Trailing, Buffer, Table, Order, Job}
+use Rattle.refusal.specs.declared.Reason.the-variants.{Opening, Ends, Groups, Edition, Kinds, Goal, Shift, Start, Gap, Pupils, Places, Jobs, Kind, LeftOver, Buffer, Table, NoOrder, Job}
 use Rattle.refusal.specs.Reasons.{needed}
 use borrow.Author.Needs.{needs}
 use Rattle.kippertarn.proofs.needed_entries.Statement.{statement}
@@ -26,21 +26,21 @@ returns-2 c = go (c .before .args .reason) (c .match .keys2)
     go : (r : Reason) → OneOf others (tagOf the-type r) → 0 ≡ needed r
     go Opening h = refl
     go Ends h = refl
-    go Malformed h = refl
+    go Groups h = refl
     go Edition h = refl
     go Kinds h = refl
     go Goal h = refl
     go Shift h = refl
     go Start h = refl
     go Gap h = refl
-    go Weight h = refl
-    go Window h = refl
+    go Pupils h = refl
+    go Places h = refl
     go Jobs h = refl
     go Kind h = refl
-    go Trailing h = refl
+    go LeftOver h = refl
     go Buffer h = refl
     go (Table n) h = absurd (miss others (tagOf the-type (Table n)) tt h)
-    go Order h = refl
+    go NoOrder h = refl
     go Job h = refl
 
 pub needed-entries-spec : {M : Type 1} → statement M

@@ -2,7 +2,7 @@
 -- Assumes nothing.
 use mathlib.Core.Path.{sym, _∙_}
 use native.Mathlib.Omega.{arith}
-use Rattle.solving.proofs.Looking.{all-filled}
+use Rattle.solver.proofs.Looking.{all-filled}
 use Rattle.making.proofs.Made.{some-order, ends-unplannable, ends-planned, never-refused}
 use borrow.Author.Needs.{needs}
 use Rattle.making.proofs.make_plan.Statement.{statement}

@@ -3,7 +3,7 @@
 use mathlib.Core.Path.{sym, ap, _∙_}
 use Rattle.queue.specs.declared.Reading.{Reading}
 use Rattle.queue_laws.proofs.Theorems.{accepted-valid}
-use Rattle.planning.proofs.Endings.{message-refused, message-accepted}
+use Rattle.best_order.proofs.Endings.{message-refused, message-accepted}
 use Rattle.planner.proofs.Ends.{ends-as, ends-refused, promised}
 use borrow.Author.Needs.{needs}
 use Rattle.planner.proofs.plan.Statement.{statement}

@@ -1,6 +1,6 @@
 -- `planner::plan_queue` meets its contract: 15, then 16, then what solving finds.
 -- Assumes nothing.
-use Rattle.planning.proofs.Endings.{short-buffer, short-table, in-room}
+use Rattle.best_order.proofs.Endings.{short-buffer, short-table, in-room}
 use Rattle.planner.proofs.Ends.{ends-as, ends-refused}
 use borrow.Author.Needs.{needs}
 use Rattle.planner.proofs.plan_queue.Statement.{statement}

@@ -3,7 +3,7 @@
 use mathlib.Core.Path.{_≡_, refl, ap, _∙_}
 use borrow.Author.Needs.{needs}
 use Rattle.refusal.specs.declared.Reason.{Reason}
-use Rattle.refusal.specs.declared.Reason.the-variants.{Opening, Ends, Malformed, Edition, Kinds, Goal, Shift, Start, Gap, Weight, Window, Jobs, Kind, Trailing, Buffer, Table, Order, Job}
+use Rattle.refusal.specs.declared.Reason.the-variants.{Opening, Ends, Groups, Edition, Kinds, Goal, Shift, Start, Gap, Pupils, Places, Jobs, Kind, LeftOver, Buffer, Table, NoOrder, Job}
 use Rattle.refusal.specs.Reasons.{reasonNumber, reasonGroup, numberGroup}
 use Rattle.refusal.proofs.reason_group.Statement.{statement}
 use Rattle.refusal.proofs.reason_group.Tie as tie
@@ -12,21 +12,21 @@ by-number : (r : Reason) → numberGroup (reasonNumber r) ≡ reasonGroup r
 unfolding numberGroup
 by-number Opening = refl
 by-number Ends = refl
-by-number Malformed = refl
+by-number Groups = refl
 by-number Edition = refl
 by-number Kinds = refl
 by-number Goal = refl
 by-number Shift = refl
 by-number Start = refl
 by-number Gap = refl
-by-number Weight = refl
-by-number Window = refl
+by-number Pupils = refl
+by-number Places = refl
 by-number Jobs = refl
 by-number Kind = refl
-by-number Trailing = refl
+by-number LeftOver = refl
 by-number Buffer = refl
 by-number (Table n) = refl
-by-number Order = refl
+by-number NoOrder = refl
 by-number Job = refl
 
 returns : tie.Need-returns

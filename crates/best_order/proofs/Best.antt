@@ -1,0 +1,101 @@
+-- Demand 3, from what planning answers and leaves.
+-- Assumes nothing.
+use Prim.Native.Nat.{ℕ, _+_, _≤_}
+use mathlib.Core.List.{List, _++_}
+use mathlib.Core.Option.{Option, none, some}
+use mathlib.Core.Path.{_≡_, refl, sym, ap, _∙_}
+use native.Mathlib.Nat.{zero-add}
+use native.Mathlib.Omega.{arith}
+use lib.ListN.{length, getD, take, drop}
+use lib.Seq.{sets, sets-eq, length-sets, take-append-seam, drop-append-seam}
+use borrow.Author.Tests.{lt-ltb, le-ltb}
+use Rattle.refusal.specs.declared.Verdict.the-variants.{Accepted}
+use Rattle.refusal.specs.Answers.{answerNumber}
+use Rattle.fields.proofs.Codecs.{Bytes}
+use Rattle.queue.specs.declared.Queue.{Queue}
+use Rattle.queue.specs.Record.{Valid}
+use Rattle.queue.specs.Reading.{readQueue}
+use Rattle.queue_laws.proofs.Theorems.{accepted-valid}
+use Rattle.plan.specs.Writing.{message}
+use Rattle.plan.proofs.Theorems.{message-length}
+use Rattle.sequencing.specs.Problem.{Problem}
+use Rattle.sequencing.specs.States.{IsPair}
+use Rattle.sequencing.specs.Recursion.{value, planCost}
+use Rattle.sequencing.specs.Entries.{entries, number, stored}
+use Rattle.sequencing.proofs.Entries.{number-in, entry-is}
+use Rattle.sequencing.proofs.Options.{none-some}
+use Rattle.problem.specs.OfQueue.{problem}
+use Rattle.problem.proofs.Queues.{none-permitted}
+use Rattle.best_order.specs.Planning.{solved, ending, bestPlan, answerOf, filledEntry, Leaves}
+use Rattle.best_order.specs.BestOrder.{Best, BestOrder}
+use Rattle.best_order.proofs.Endings.{message-accepted, in-room}
+use Rattle.best_order.proofs.Plans.{valid-plan, read-again, best-plan}
+
+-- ---- the table
+
+module _ (q : Queue) (table table′ : List ℕ) (filled : (n : ℕ) → getD table′ n 0 ≡ filledEntry q table n) where
+  entry-of : (L : ℕ) (k : List ℕ) → IsPair (problem q) L k → getD table′ (number (problem q) L k) 0 ≡ stored (value (problem q) L k)
+  entry-of L k p =
+      filled (number (problem q) L k)
+      ∙ rw (lt-ltb (number (problem q) L k) (entries (problem q)) (number-in (problem q) L k p)) (ap stored (entry-is (problem q) L k p))
+
+  past : (n : ℕ) → entries (problem q) ≤ n → getD table′ n 0 ≡ getD table n 0
+  past n h = filled n ∙ rw (le-ltb n (entries (problem q)) h)
+
+-- ---- the written plan
+
+-- a message written from the first byte on stands there, and bytes behind it are as before
+module _ (s buffer : List ℕ) (h : length s ≤ length buffer) where
+  parts : sets buffer 0 s ≡ s ++ drop (length s) buffer
+  parts = sets-eq s buffer 0 (omega arith) ∙ ap (λ (n : ℕ). s ++ drop n buffer) (zero-add (length s))
+
+  written : take (length s) (sets buffer 0 s) ≡ s
+  written = ap (take (length s)) parts ∙ take-append-seam s (drop (length s) buffer)
+
+  behind : drop (length s) (sets buffer 0 s) ≡ drop (length s) buffer
+  behind = ap (drop (length s)) parts ∙ drop-append-seam s (drop (length s) buffer)
+
+module _ (q : Queue) (v : Valid q) (table buffer table′ buffer′ : List ℕ) where
+  abbrev P : Problem
+  P = problem q
+
+  best : (r : Option ℕ) → planCost P ≡ r → 77 ≤ length buffer → Leaves (solved q r) table buffer table′ buffer′
+      → Best P table buffer table′ buffer′ (answerNumber (answerOf (solved q r)))
+  best none e h l = record {
+    none-permitted = ((λ _. none-permitted q v .0 e), (λ _. refl));
+    otherwise = λ other. absurd (other refl);
+    behind = λ n a. absurd (omega arith);
+    unwritten = λ _. l .buffer-is;
+    entry-of = entry-of q table table′ (l .table-is);
+    past = past q table table′ (l .table-is);
+  }
+  best (some c) e h l =
+      let s : List ℕ = message (bestPlan q c) in
+      let short : length s ≤ length buffer = omega (arith, message-length (bestPlan q c) (valid-plan q v c e)) in
+      record {
+        none-permitted = ((λ a. absurd (omega arith)), (λ never. absurd (none-some c (sym (none-permitted q v .1 never) ∙ e))));
+        otherwise = λ _. (
+          length s,
+          refl,
+          rw (l .buffer-is, length-sets) short,
+          rw (l .buffer-is, written s buffer short, read-again q v c e) (best-plan q v c e),
+        );
+        behind = λ n a. let e : n ≡ length s = omega arith in rw (e, l .buffer-is) (behind s buffer short);
+        unwritten = λ a. absurd (omega arith);
+        entry-of = entry-of q table table′ (l .table-is);
+        past = past q table table′ (l .table-is);
+      }
+
+-- an accepted message with room for its table and plan is planned by the recursion
+pub reached : (s : List ℕ) (n room : ℕ) → readQueue s .verdict ≡ Accepted → entries (problem (readQueue s .queue)) ≤ n → 77 ≤ room
+    → ending (readQueue s) n room ≡ solved (readQueue s .queue) (planCost (problem (readQueue s .queue)))
+reached s n room a h k = message-accepted s n room a ∙ in-room (readQueue s .queue) n room k _ refl h
+
+-- demand 3
+pub best-order : (s table buffer table′ buffer′ : List ℕ) → Bytes s
+    → Leaves (ending (readQueue s) (length table) (length buffer)) table buffer table′ buffer′
+    → BestOrder s table buffer table′ buffer′ (answerNumber (answerOf (ending (readQueue s) (length table) (length buffer))))
+best-order s table buffer table′ buffer′ y l a h k =
+    let q : Queue = readQueue s .queue in
+    let e = reached s (length table) (length buffer) a h k in
+    rw e (best q (accepted-valid s y a) table buffer table′ buffer′ (planCost (problem q)) refl k (rw e at l))

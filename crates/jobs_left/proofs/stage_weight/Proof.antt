@@ -1,0 +1,18 @@
+-- `jobs_left::stage_weight` meets its contract.
+-- Assumes nothing.
+use borrow.Author.Tests.{eq-eqb, ne-eqb}
+use Rattle.jobs_left.proofs.stage_weight.Statement.{statement}
+use Rattle.jobs_left.proofs.stage_weight.Tie as tie
+
+returns : tie.Need-returns
+returns c = rw (eq-eqb _ _ (c .if1 .taken))
+
+returns-2 : tie.Need-returns-2
+returns-2 c = rw (ne-eqb _ _ (c .if1 .left))
+
+pub stage-weight-spec : {M : Type 1} → statement M
+stage-weight-spec =
+    tie.close
+    (tie.spec
+    returns
+    returns-2)

@@ -1,0 +1,61 @@
+-- `jobs_left::weight_left` meets its contract: `Weighing` is the invariant; the kinds left fall.
+-- Assumes nothing.
+use Prim.Native.Nat.{_-_}
+use native.Mathlib.Omega.{arith}
+use Rattle.jobs_left.proofs.Fronts.{Weighing, weighing-none, one-fits, weighing-fits, weighing-more, front-done}
+use borrow.Author.Needs.{needs}
+use Rattle.jobs_left.proofs.weight_left.Statement.{statement}
+use Rattle.jobs_left.proofs.weight_left.Tie as tie
+
+abbrev Inv-loop : tie.InvT-loop
+Inv-loop left weights kinds total₀ j₀ total j = Weighing weights left kinds total j
+
+abbrev μ-loop : tie.MeasureT-loop
+μ-loop left weights kinds total₀ j₀ total j = kinds - j
+
+loop-holds : tie.Need-loop-holds Inv-loop μ-loop
+loop-holds c = weighing-none _ _ _
+
+cast-total : tie.Need-cast-total Inv-loop μ-loop
+cast-total c = omega (arith, c .shared-slice-known .given (c .before .before .loop .j))
+
+cast-total-2 : tie.Need-cast-total-2 Inv-loop μ-loop
+cast-total-2 c = omega (arith, c .shared-slice-known2 .given (c .before .before .before .loop .j))
+
+mul-total-3 : tie.Need-mul-total-3 Inv-loop μ-loop
+mul-total-3 c =
+    let bounds = c .before .before .before .before .pre .1 .1 .1 in
+    record { fits = one-fits _ _ _ _ _ (c .before .before .before .loop .inv) (c .before .before .loop-test .taken) (bounds .0) (bounds .1) }
+
+add-total : tie.Need-add-total Inv-loop μ-loop
+add-total c =
+    let bounds = c .before .before .before .before .pre .1 .1 .1 in
+    record { fits = weighing-fits _ _ _ _ _ (c .before .before .before .loop .inv) (c .before .before .loop-test .taken) (bounds .0) (bounds .1) (omega arith) }
+
+loop-again : tie.Need-loop-again Inv-loop μ-loop
+loop-again c =
+    let bounds = c .before .before .before .before .pre .1 .1 .1 in
+    weighing-more _ _ _ _ _ (c .before .before .before .loop .inv) (c .before .before .loop-test .taken) (bounds .0) (bounds .1) (omega arith)
+
+returns : tie.Need-returns Inv-loop μ-loop
+returns c = front-done _ _ _ _ _ _ (c .before .loop .inv .front) (c .loop-test .left)
+
+pub weight-left-spec : {M : Type 1} → statement M
+weight-left-spec =
+    tie.close
+    (tie.spec
+    Inv-loop
+    μ-loop
+    loop-holds
+    (λ c. search needs)
+    (λ c. search needs)
+    cast-total
+    (λ c. search needs)
+    (λ c. search needs)
+    cast-total-2
+    mul-total-3
+    add-total
+    (λ c. search needs)
+    (λ c. search needs)
+    loop-again
+    returns)

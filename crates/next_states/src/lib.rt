@@ -1,0 +1,124 @@
+// The table of values: what the next states hold, and the least over them from any row.
+use units::PupilSeconds;
+use units::Seconds;
+ghost use mathlib.Core.Path.{_≡_};
+ghost use mathlib.Core.Bool.{cond, _&&_};
+ghost use mathlib.Core.Option.{none, some};
+ghost use Prim.Native.Nat.{ℕ, min, _+_, _-_, _*_, _^_, _≤_, _<_};
+ghost use lib.Dec.{leb, ltb};
+ghost use lib.ListN.{length, getD};
+ghost use Rattle.sequencing.specs.Least.{only, plus, least, argLeast};
+ghost use Rattle.sequencing.specs.Entries.{stored};
+ghost use Rattle.next_states.specs.Entries.{loaded, nextValues, candidate, Loadable, Ready};
+
+// An entry that holds no value.
+pub const NONE: u64 = 18446744073709551615;
+
+// The least cost over the kinds, NONE where there is none, and the smallest kind that reaches it.
+pub struct Least {
+    pub cost: u64,
+    pub kind: usize,
+}
+
+// One step's cost and what comes after it, in the goal's own unit.
+fn step_cost(goal: u32, weight: u64, gap: u32, value: u64) -> u64
+    requires { ⌜ (goal ≡ 1 → weight ≡ 1) × (weight * gap + value < 2 ^ 64) ⌝ }
+    ensures { λ r. ⌜ r ≡ weight * gap + value ⌝ }
+{
+    if goal == 1 {
+        let total = Seconds(gap as u64).plus(Seconds(value));
+        total.0
+    } else {
+        let total = Seconds(gap as u64)
+            .weighted(weight)
+            .plus(PupilSeconds(value));
+        total.0
+    }
+}
+
+// What a next state with this value comes to, NONE where it has none.
+fn next_cost(value: u64, gap: u32, goal: u32, weight: u64) -> u64
+    requires { ⌜ (goal ≡ 1 → weight ≡ 1) × ((v : ℕ) → loaded value ≡ some v → weight * gap + v < 2 ^ 64 - 1) ⌝ }
+    ensures { λ r. ⌜ r ≡ stored (plus (weight * gap) (loaded value)) ⌝ }
+{
+    if value == NONE {
+        return NONE;
+    }
+    step_cost(goal, weight, gap, value)
+}
+
+// The better of two, the earlier where they are equal.
+fn lower(best: Least, cost: u64, kind: usize) -> Least
+    ensures { λ r. ⌜ r .cost ≡ min (best .cost) cost ⌝ }
+    ensures { λ r. ⌜ r .kind ≡ cond (ltb cost (best .cost)) kind (best .kind) ⌝ }
+{
+    if cost < best.cost {
+        Least { cost, kind }
+    } else {
+        best
+    }
+}
+
+// The least over the next states after row (a kind, or 0 for the cold cutter). All five places are looked at, NONE where there is no kind: a loop of a
+// fixed length is unrolled.
+pub fn least_of(next: &[u64], gaps: &[u32], row: usize, goal: u32, weight: u64) -> Least
+    requires { ⌜ Ready (now next) (now gaps) row weight × (goal ≡ 1 → weight ≡ 1) ⌝ }
+    ensures { λ r. ⌜ r .cost ≡ stored (least (candidate (now (next .entry)) (now (gaps .entry)) row weight) 5) ⌝ }
+    ensures { λ r. ⌜ ((c : ℕ) → least (candidate (now (next .entry)) (now (gaps .entry)) row weight) 5 ≡ some c → r .kind ≡ argLeast (candidate (now (next .entry)) (now (gaps .entry)) row weight) 5) ⌝ }
+    ensures { λ r. ⌜ (least (candidate (now (next .entry)) (now (gaps .entry)) row weight) 5 ≡ none → r .kind ≡ 0) ⌝ }
+{
+    let mut best = Least {
+        cost: NONE,
+        kind: 0,
+    };
+    let mut x: usize = 0;
+    while x < 5 {
+        let cost = next_cost(next[x], gaps[5 * row + x], goal, weight);
+        best = lower(best, cost, x + 1);
+        x = x + 1;
+    }
+    best
+}
+
+// The entry of the next state by way of kind x (from 0), NONE where no job of it is left.
+fn next_value(
+    table: &[u64],
+    left: u32,
+    stride: usize,
+    x: usize,
+    kinds: usize,
+    block: usize,
+    index: usize,
+) -> u64
+    requires { ⌜ (x < kinds → 0 < left → (x * block + index < length (now table)) × (stride ≤ index)) ⌝ }
+    ensures { λ r. ⌜ r ≡ stored (only (leb (x + 1) kinds && ltb 0 left) (loaded (getD (now (table .entry)) (x * block + index - stride) 0))) ⌝ }
+{
+    if kinds <= x {
+        return NONE;
+    }
+    if left == 0 {
+        return NONE;
+    }
+    table[x * block + index - stride]
+}
+
+// The next states' entries, kind by kind, read once for all states with one k.
+pub fn load_next(
+    table: &[u64],
+    left: &[u32],
+    strides: &[usize],
+    kinds: usize,
+    block: usize,
+    index: usize,
+) -> [u64; 5]
+    requires { ⌜ Loadable (now table) (now left) (now strides) kinds block index ⌝ }
+    ensures { λ r. ⌜ r ≡ nextValues (now (table .entry)) (now (left .entry)) (now (strides .entry)) kinds block index ⌝ }
+{
+    let mut next = [NONE; 5];
+    let mut x: usize = 0;
+    while x < 5 {
+        next[x] = next_value(table, left[x], strides[x], x, kinds, block, index);
+        x = x + 1;
+    }
+    next
+}
