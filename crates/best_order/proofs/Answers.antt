@@ -24,7 +24,7 @@ use Rattle.sequencing.specs.Recursion.{planCost}
 use Rattle.sequencing.specs.Entries.{entries}
 use Rattle.problem.specs.OfQueue.{problem}
 use Rattle.problem.proofs.Sizes.{entries-small}
-use Rattle.best_order.specs.Planning.{refused, solved, endingOf, ifAccepted, ending, bestPlan, answerOf}
+use Rattle.best_order.specs.Endings.{refused, solved, endingOf, ifAccepted, ending, bestPlan, answerOf}
 use Rattle.best_order.proofs.Plans.{valid-plan}
 
 -- refusals are numbered 1 to 18

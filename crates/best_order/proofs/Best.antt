@@ -26,7 +26,7 @@ use Rattle.sequencing.proofs.Entries.{number-in, entry-is}
 use Rattle.sequencing.proofs.Options.{none-some}
 use Rattle.problem.specs.OfQueue.{problem}
 use Rattle.problem.proofs.Queues.{none-permitted}
-use Rattle.best_order.specs.Planning.{solved, ending, bestPlan, answerOf, filledEntry, Leaves}
+use Rattle.best_order.specs.Endings.{solved, ending, bestPlan, answerOf, filledEntry, Leaves}
 use Rattle.best_order.specs.BestOrder.{Best, BestOrder}
 use Rattle.best_order.proofs.Endings.{message-accepted, in-room}
 use Rattle.best_order.proofs.Plans.{valid-plan, read-again, best-plan}

@@ -13,7 +13,7 @@ use Rattle.queue.specs.Reading.{readQueue}
 use Rattle.sequencing.specs.Recursion.{planCost}
 use Rattle.sequencing.specs.Entries.{entries}
 use Rattle.problem.specs.OfQueue.{problem}
-use Rattle.best_order.specs.Planning.{refused, solved, endingOf, ending}
+use Rattle.best_order.specs.Endings.{refused, solved, endingOf, ending}
 
 -- ---- the message
 

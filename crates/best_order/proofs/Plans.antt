@@ -26,7 +26,7 @@ use Rattle.problem.specs.OfQueue.{problem}
 use Rattle.problem.proofs.Rule.{jobs-is, proper}
 use Rattle.problem.proofs.Queues.{planned, none-cheaper, ties, cost-fits, counted}
 use Rattle.problem.proofs.Sizes.{entries-small}
-use Rattle.best_order.specs.Planning.{bestPlan}
+use Rattle.best_order.specs.Endings.{bestPlan}
 use Rattle.best_order.specs.BestOrder.{BestPlan}
 use Rattle.best_order.proofs.Orders.{order-in, order-once}
 

@@ -26,7 +26,7 @@ use Rattle.sequencing.specs.Recursion.{planCost}
 use Rattle.sequencing.specs.Entries.{entries}
 use Rattle.problem.specs.OfQueue.{problem}
 use Rattle.problem.proofs.Queues.{none-permitted}
-use Rattle.best_order.specs.Planning.{Ending, refused, unplannable, planned, ending, answerOf}
+use Rattle.best_order.specs.Endings.{Ending, refused, unplannable, planned, ending, answerOf}
 use Rattle.best_order.proofs.Answers.{reason-range}
 use Rattle.best_order.proofs.Endings.{message-refused, message-accepted, short-buffer, short-table}
 use Rattle.best_order.proofs.Best.{reached}

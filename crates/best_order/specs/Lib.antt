@@ -1,2 +1,3 @@
-pub mod Planning
+pub mod Endings
 pub mod BestOrder
+pub mod Planning

@@ -20,7 +20,7 @@ use Rattle.sequencing.specs.Recursion.{W, toGo, value, choice, walk, planCost, 
 use Rattle.sequencing.specs.Entries.{size, digits, entryKind, entryLeft}
 use Rattle.sequencing.specs.Counts.{feasibleStates}
 use Rattle.problem.specs.PlaceRule.{allowed}
-use Rattle.best_order.specs.Planning.{endingOf, ending, bestPlan, answerOf, bufferOf}
+use Rattle.best_order.specs.Endings.{endingOf, ending, bestPlan, answerOf, bufferOf}
 
 -- A, but for its goal, shift, a_1 and a_2
 abbrev likeA : (goal shift a₁ a₂ : ℕ) → List ℕ

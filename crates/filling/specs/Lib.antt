@@ -1,1 +1,1 @@
-pub mod Staged
+pub mod Filling

@@ -1,136 +1,141 @@
 // Filling the table of a queue: every state's value, and how many states are feasible.
-use jobs_left::Step;
-use layout::Setup;
+use jobs_left::JobsLeft;
+use layout::Layout;
+use layout::Size;
 use queue::Queue;
-use stages::Stage;
 ghost use mathlib.Core.Path.{_≡_};
-ghost use mathlib.Core.Bool.{cond};
-ghost use Prim.Native.Nat.{ℕ, _+_, _-_, _*_, _≤_, _<_};
-ghost use lib.Dec.{ltb};
-ghost use lib.ListN.{length, getD};
+ghost use mathlib.Core.Bool.{_&&_};
+ghost use Prim.Native.Nat.{_+_, _^_, _≤_, _<_};
+ghost use lib.Dec.{leb};
+ghost use lib.ListN.{length};
 ghost use Rattle.queue.specs.Record.{Valid};
-ghost use Rattle.sequencing.specs.Lists.{sumBelow};
-ghost use Rattle.sequencing.specs.Entries.{entries, entry, stored};
+ghost use Rattle.sequencing.specs.Entries.{entries, stored, FilledTable};
 ghost use Rattle.sequencing.specs.Counts.{valued, feasibleStates};
 ghost use Rattle.problem.specs.OfQueue.{problem};
 ghost use Rattle.layout.specs.Prepared.{Prepared};
-ghost use Rattle.filling.specs.Staged.{entryFrom, Staged};
+ghost use Rattle.next_states.specs.NextStates.{loaded, Ready};
+ghost use Rattle.filling.specs.Filling.{entered, Fillable, StatesFilled};
 
-// The numbers of a queue and of one k.
-pub struct Shape {
-    pub kinds: usize,
-    pub block: usize,
-    // The counts' part of the entry number.
-    pub index: usize,
-    pub goal: u32,
-    pub jobs: u32,
-    // Jobs left, and their weight.
-    pub remaining: u32,
-    pub weight: u64,
+// The value of one state, NONE where it is not feasible.
+fn state_value(
+    next: &[u64],
+    gaps: &[u32],
+    kind: usize,
+    goal: u32,
+    weight: u64,
+    jobs: u32,
+    place: u32,
+    earliest: u8,
+    latest: u8,
+) -> u64
+    requires { ⌜ Ready (now next) (now gaps) kind weight × (goal ≡ 1 → weight ≡ 1) ⌝ }
+    ensures { λ r. ⌜ r ≡ stored (entered (now (next .entry)) (now (gaps .entry)) weight jobs (leb earliest place && leb place latest) kind) ⌝ }
+{
+    if place < earliest as u32 {
+        return next_states::NONE;
+    }
+    if (latest as u32) < place {
+        return next_states::NONE;
+    }
+    if jobs == 0 {
+        return 0;
+    }
+    let best = next_states::least_of(next, gaps, kind, goal, weight);
+    best.cost
+}
+
+// The count with one more where there is a value.
+fn counted(feasible: u64, value: u64) -> u64
+    requires { ⌜ feasible < 2 ^ 63 ⌝ }
+    ensures { λ r. ⌜ r ≡ feasible + valued (loaded value) ⌝ }
+{
+    if value == next_states::NONE {
+        feasible
+    } else {
+        feasible + 1
+    }
 }
 
 // Stores the entries of all states with one k; returns how many of them hold a value.
-fn fill_index(
+fn fill_states(
     table: &mut [u64],
     left: &[u32],
-    earliest: &[u32],
-    latest: &[u32],
     strides: &[usize],
+    slots: &[usize],
+    earliest: &[u8],
+    latest: &[u8],
     gaps: &[u32],
-    shape: Shape,
+    size: Size,
+    goal: u32,
+    k: JobsLeft,
 ) -> u64
-    requires { ⌜ Staged (now table) (record { left = now left; earliest = now earliest; latest = now latest; strides = now strides; gaps = now gaps }) shape ⌝ }
-    ensures { λ _. ⌜ length (now (table .exit)) ≡ length (now (table .entry)) ⌝ }
-    ensures { λ _. ⌜ ((L : ℕ) → 1 ≤ L → L ≤ shape .kinds → getD (now (table .exit)) ((L - 1) * shape .block + shape .index) 0 ≡ stored (entryFrom (now (table .entry)) (record { left = now (left .entry); earliest = now (earliest .entry); latest = now (latest .entry); strides = now (strides .entry); gaps = now (gaps .entry) }) shape L)) ⌝ }
-    ensures { λ _. ⌜ ((n : ℕ) → ((L : ℕ) → 1 ≤ L → L ≤ shape .kinds → n ≡ (L - 1) * shape .block + shape .index → ⊥) → getD (now (table .exit)) n 0 ≡ getD (now (table .entry)) n 0) ⌝ }
-    ensures { λ r. ⌜ r ≡ sumBelow (λ l. valued (entryFrom (now (table .entry)) (record { left = now (left .entry); earliest = now (earliest .entry); latest = now (latest .entry); strides = now (strides .entry); gaps = now (gaps .entry) }) shape (l + 1))) (shape .kinds) ⌝ }
+    requires { ⌜ Fillable (now table) (record { left = now left; strides = now strides; slots = now slots; earliest = now earliest; latest = now latest; gaps = now gaps }) size goal k ⌝ }
+    ensures { λ r. ⌜ StatesFilled (now (table .entry)) (record { left = now (left .entry); strides = now (strides .entry); slots = now (slots .entry); earliest = now (earliest .entry); latest = now (latest .entry); gaps = now (gaps .entry) }) size goal k (now (table .exit)) r ⌝ }
 {
-    let kinds = shape.kinds;
-    let weight = jobs_left::stage_weight(shape.goal, shape.weight);
-    let place = shape.jobs - shape.remaining;
-    let next = next_states::load_next(table, left, strides, kinds, shape.block, shape.index);
-    stages::fill_states(
-        table,
-        &next,
-        earliest,
-        latest,
-        gaps,
-        Stage {
-            kinds,
-            block: shape.block,
-            index: shape.index,
-            goal: shape.goal,
+    let kinds = size.kinds;
+    let block = size.block;
+    let index = k.index;
+    let weight = jobs_left::step_weight(goal, k.weight);
+    let place = size.jobs - k.jobs;
+    let next = next_states::load_next(table, left, strides, block, index);
+    let mut feasible: u64 = 0;
+    let mut kind: usize = 0;
+    while kind < kinds {
+        let slot = slots[kind] + left[kind] as usize;
+        let value = state_value(
+            &next,
+            gaps,
+            kind + 1,
+            goal,
             weight,
-            remaining: shape.remaining,
+            k.jobs,
             place,
-        },
-    )
-}
-
-// Where filling begins: no job is left, and every kind's window is still to be set.
-fn first_step(kinds: usize) -> Step
-    ensures { λ r. ⌜ r ≡ record { changed = kinds; remaining = 0; weight = 0 } ⌝ }
-{
-    Step {
-        changed: kinds,
-        remaining: 0,
-        weight: 0,
+            earliest[slot],
+            latest[slot],
+        );
+        table[kind * block + index] = value;
+        feasible = counted(feasible, value);
+        kind = kind + 1;
     }
-}
-
-// The numbers of the k that a step led to.
-fn shape_at(kinds: usize, block: usize, index: usize, goal: u32, jobs: u32, step: Step) -> Shape
-    ensures { λ r. ⌜ r ≡ record { kinds = kinds; block = block; index = index; goal = goal; jobs = jobs; remaining = step .remaining; weight = step .weight } ⌝ }
-{
-    Shape {
-        kinds,
-        block,
-        index,
-        goal,
-        jobs,
-        remaining: step.remaining,
-        weight: step.weight,
-    }
+    feasible
 }
 
 // Fills the table with every state's value; returns how many states are feasible.
-pub fn fill(queue: Queue, setup: Setup, table: &mut [u64]) -> u64
-    requires { ⌜ Valid queue × (Prepared (problem queue) (setup .counts) (setup .jobs) (setup .strides) (setup .block) × (entries (problem queue) ≤ length (now table))) ⌝ }
-    ensures { λ _. ⌜ length (now (table .exit)) ≡ length (now (table .entry)) ⌝ }
-    ensures { λ _. ⌜ ((n : ℕ) → getD (now (table .exit)) n 0 ≡ cond (ltb n (entries (problem queue))) (stored (entry (problem queue) n)) (getD (now (table .entry)) n 0)) ⌝ }
+pub fn fill(queue: Queue, layout: Layout, table: &mut [u64]) -> u64
+    requires { ⌜ Valid queue × (Prepared queue layout × (entries (problem queue) ≤ length (now table))) ⌝ }
+    ensures { λ _. ⌜ FilledTable (problem queue) (now (table .entry)) (now (table .exit)) ⌝ }
     ensures { λ r. ⌜ r ≡ feasibleStates (problem queue) ⌝ }
 {
-    let kinds = queue.kinds as usize;
+    let size = layout.size;
     let gaps = queue.gaps;
     let weights = queue.weights;
-    let first = queue.first_places;
-    let last = queue.last_places;
-    let counts = setup.counts;
-    let jobs = setup.jobs;
-    let strides = setup.strides;
-    let block = setup.block;
+    let counts = layout.counts;
+    let strides = layout.strides;
+    let slots = layout.slots;
+    let earliest = layout.earliest;
+    let latest = layout.latest;
     let mut left = [0u32; 5];
-    let mut earliest = [0u32; 5];
-    let mut latest = [0u32; 5];
-    let mut step = first_step(kinds);
+    let mut k = JobsLeft {
+        index: 0,
+        jobs: 0,
+        weight: 0,
+    };
     let mut feasible: u64 = 0;
-    let mut index: usize = 0;
-    while index < block {
-        permitted_places::set_windows(
-            &left,
-            &counts,
-            &jobs,
-            &first,
-            &last,
-            queue.max_shift,
-            step.changed,
-            &mut earliest,
-            &mut latest,
-        );
-        let shape = shape_at(kinds, block, index, queue.goal, queue.jobs, step);
-        feasible = feasible + fill_index(table, &left, &earliest, &latest, &strides, &gaps, shape);
-        step = jobs_left::step_left(&mut left, &counts, &weights, kinds, step);
-        index = index + 1;
+    while k.index < size.block {
+        feasible = feasible
+            + fill_states(
+                table,
+                &left,
+                &strides,
+                &slots,
+                &earliest,
+                &latest,
+                &gaps,
+                size,
+                queue.goal,
+                k,
+            );
+        k = jobs_left::step_left(&mut left, &counts, &weights, size.kinds, k);
     }
     feasible
 }

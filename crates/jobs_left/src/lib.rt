@@ -1,11 +1,18 @@
-// The counts of jobs left: their sums, and stepping through all of them in the table's order.
+// The jobs left: their weight, 01's W, and stepping through all k in the table's order.
 ghost use mathlib.Core.Path.{_≡_};
 ghost use mathlib.Core.Bool.{cond};
 ghost use Prim.Native.Nat.{ℕ, _+_, _-_, _*_, _^_, _≤_, _<_};
 ghost use lib.Dec.{eqb};
 ghost use lib.ListN.{length, getD, take, drop};
-ghost use Rattle.sequencing.specs.Lists.{at, weigh};
+ghost use Rattle.sequencing.specs.Lists.{weigh};
 ghost use Rattle.jobs_left.specs.Steps.{next, Summed};
+
+// One k beside its counts: its part of the entry number, the jobs left, and their weight.
+pub struct JobsLeft {
+    pub index: usize,
+    pub jobs: u32,
+    pub weight: u64,
+}
 
 // The weight of the jobs left: the sum of k_j times w_j.
 pub fn weight_left(left: &[u32], weights: &[u32], kinds: usize) -> u64
@@ -22,7 +29,7 @@ pub fn weight_left(left: &[u32], weights: &[u32], kinds: usize) -> u64
 }
 
 // 01's W: 1 under goal 1, the weight of the jobs left under goal 2.
-pub fn stage_weight(goal: u32, weight: u64) -> u64
+pub fn step_weight(goal: u32, weight: u64) -> u64
     ensures { λ r. ⌜ r ≡ cond (eqb goal 1) 1 weight ⌝ }
 {
     if goal == 1 {
@@ -31,52 +38,43 @@ pub fn stage_weight(goal: u32, weight: u64) -> u64
     weight
 }
 
-// What a step leaves beside the counts.
-pub struct Step {
-    // How many kinds' counts may have changed; the others keep theirs.
-    pub changed: usize,
-    // Jobs left.
-    pub remaining: u32,
-    // Their weight.
-    pub weight: u64,
-}
-
 // Steps to the counts whose index is one more, with their sums.
 pub fn step_left(
     left: &mut [u32],
     counts: &[u32],
     weights: &[u32],
     kinds: usize,
-    before: Step,
-) -> Step
-    requires { ⌜ (kinds ≤ 5) × ((length (now left) ≡ 5) × ((length (now counts) ≡ 5) × ((length (now weights) ≡ 5) × (Summed (now weights) (take kinds (now left)) (before .remaining) (before .weight) × ((before .remaining < 2 ^ 31) × (before .weight < 2 ^ 63)))))) ⌝ }
+    k: JobsLeft,
+) -> JobsLeft
+    requires { ⌜ (kinds ≤ 5) × ((length (now left) ≡ 5) × ((length (now counts) ≡ 5) × ((length (now weights) ≡ 5) × (Summed (now weights) (take kinds (now left)) (k .jobs) (k .weight) × ((k .jobs < 2 ^ 31) × ((k .weight < 2 ^ 63) × (k .index < 2 ^ 63))))))) ⌝ }
     ensures { λ _. ⌜ take kinds (now (left .exit)) ≡ next (take kinds (now (counts .entry))) (take kinds (now (left .entry))) ⌝ }
     ensures { λ _. ⌜ drop kinds (now (left .exit)) ≡ drop kinds (now (left .entry)) ⌝ }
-    ensures { λ r. ⌜ (r .changed ≤ kinds) × ((L : ℕ) → r .changed < L → at (now (left .exit)) L ≡ at (now (left .entry)) L) ⌝ }
-    ensures { λ r. ⌜ Summed (now (weights .entry)) (take kinds (now (left .exit))) (r .remaining) (r .weight) ⌝ }
+    ensures { λ r. ⌜ Summed (now (weights .entry)) (take kinds (now (left .exit))) (r .jobs) (r .weight) ⌝ }
+    ensures { λ r. ⌜ r .index ≡ k .index + 1 ⌝ }
 {
-    let mut remaining = before.remaining;
-    let mut weight = before.weight;
+    let index = k.index + 1;
+    let mut jobs = k.jobs;
+    let mut weight = k.weight;
     let mut j: usize = 0;
     while j < kinds {
         let n = left[j];
         let w = weights[j] as u64;
         if n < counts[j] {
             left[j] = n + 1;
-            return Step {
-                changed: j + 1,
-                remaining: remaining + 1,
+            return JobsLeft {
+                index,
+                jobs: jobs + 1,
                 weight: weight + w,
             };
         }
-        remaining = remaining - n;
+        jobs = jobs - n;
         weight = weight - n as u64 * w;
         left[j] = 0;
         j = j + 1;
     }
-    Step {
-        changed: j,
-        remaining,
+    JobsLeft {
+        index,
+        jobs,
         weight,
     }
 }

@@ -4,13 +4,12 @@ use refusal::Reason;
 use refusal::Verdict;
 ghost use mathlib.Core.Path.{_≡_};
 ghost use Prim.Native.Nat.{_^_, _<_};
-ghost use lib.ListN.{length};
 ghost use Rattle.refusal.specs.Reasons.{needed};
 ghost use Rattle.refusal.specs.Answers.{refusalNumber, verdictNumber, answerNumber};
 ghost use Rattle.queue.specs.Reading.{readQueue};
 ghost use Rattle.plan.specs.Reading.{readPlan};
-ghost use Rattle.best_order.specs.Planning.{ending, answerOf, Leaves};
-ghost use Rattle.best_order.specs.BestOrder.{BestOrder};
+ghost use Rattle.best_order.specs.Endings.{answerOf};
+ghost use Rattle.best_order.specs.Planning.{endingOn, Planning};
 
 // The entries that the reason for 16 holds, else 0.
 fn needed_entries(reason: Reason) -> u64
@@ -75,9 +74,8 @@ pub extern "C" fn kippertarn_check_plan(message: &[u8]) -> u64
 // Plans a queue message: V is the bytes of the written plan, and for 16 the needed entries.
 #[no_mangle]
 pub extern "C" fn kippertarn_plan(message: &[u8], table: &mut [u64], plan: &mut [u8]) -> u64
-    ensures { λ r. ⌜ r ≡ answerNumber (answerOf (ending (readQueue (now (message .entry))) (length (now (table .entry))) (length (now (plan .entry))))) ⌝ }
-    ensures { λ _. ⌜ Leaves (ending (readQueue (now (message .entry))) (length (now (table .entry))) (length (now (plan .entry)))) (now (table .entry)) (now (plan .entry)) (now (table .exit)) (now (plan .exit)) ⌝ }
-    ensures { λ r. ⌜ BestOrder (now (message .entry)) (now (table .entry)) (now (plan .entry)) (now (table .exit)) (now (plan .exit)) r ⌝ }
+    ensures { λ r. ⌜ r ≡ answerNumber (answerOf (endingOn (now (message .entry)) (now (table .entry)) (now (plan .entry)))) ⌝ }
+    ensures { λ _. ⌜ Planning (now (message .entry)) (now (table .entry)) (now (plan .entry)) (now (table .exit)) (now (plan .exit)) (answerOf (endingOn (now (message .entry)) (now (table .entry)) (now (plan .entry)))) ⌝ }
 {
     let answer = planner::plan(message, table, plan);
     answer_number(answer)

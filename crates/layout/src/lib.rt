@@ -1,51 +1,145 @@
-// What is prepared once a call: the jobs of each kind, the numbering of the table's entries, and how many it needs.
+// What is prepared once a call: N, T and P, the jobs of each kind, the places permitted to them, and the numbering of the table's entries.
 use queue::Queue;
 ghost use mathlib.Core.Path.{_≡_};
-ghost use Prim.Native.Nat.{ℕ, _≤_, _<_};
-ghost use lib.ListN.{length, getD, take, replicate};
+ghost use Prim.Native.Nat.{_*_, _^_, _<_};
 ghost use Rattle.queue.specs.Record.{Valid};
-ghost use Rattle.sequencing.specs.Lists.{at};
-ghost use Rattle.sequencing.specs.Entries.{size, stride, entries};
-ghost use Rattle.problem.specs.OfQueue.{problem};
-ghost use Rattle.layout.specs.Listed.{Listed};
 ghost use Rattle.layout.specs.Prepared.{Prepared};
 
-// What is prepared once a call.
-pub struct Setup {
-    // K_1 .. K_N, then 0.
-    pub counts: [u32; 5],
-    // The jobs of each kind by hand-in, sixty places a kind, then 0.
-    pub jobs: [u32; 300],
-    // What one job of each kind counts for in an entry number.
-    pub strides: [usize; 5],
-    // 01's P.
+// 01's N, T and P.
+pub struct Size {
+    pub kinds: usize,
+    pub jobs: u32,
     pub block: usize,
 }
 
-// Lists the jobs of each kind by hand-in, sixty places a kind, and counts them.
-fn list_jobs(queue: Queue, counts: &mut [u32], jobs: &mut [u32])
-    requires { ⌜ Valid queue × ((now counts ≡ replicate 5 0) × (now jobs ≡ replicate 300 0)) ⌝ }
-    ensures { λ _. ⌜ Listed (problem queue) (now (counts .exit)) (now (jobs .exit)) ⌝ }
-{
-    let job_kinds = queue.job_kinds;
-    let total = queue.jobs as usize;
+// What is prepared once a call.
+pub struct Layout {
+    pub size: Size,
+    // K_1 .. K_N, then 0.
+    pub counts: [u32; 5],
+    // The jobs kind by kind, each kind by hand-in, then 0; and where each kind begins.
+    pub jobs: [u8; 60],
+    pub begins: [u32; 5],
+    // The first and the last place permitted to a kind's job just cut, a slot for each number left of the kind; and where each kind's slots begin.
+    pub earliest: [u8; 65],
+    pub latest: [u8; 65],
+    pub slots: [usize; 5],
+    // What one job of each kind counts for in an entry number.
+    pub strides: [usize; 5],
+}
+
+// Lists the jobs of a kind by hand-in, from `from` on; returns the position behind them.
+fn list_kind(job_kinds: &[u8], total: usize, kind: u8, jobs: &mut [u8], from: usize) -> usize {
+    let mut at = from;
     let mut i: usize = 0;
     while i < total {
-        let kind = job_kinds[i] as usize - 1;
-        let n = counts[kind];
-        jobs[60 * kind + n as usize] = i as u32 + 1;
-        counts[kind] = n + 1;
+        if job_kinds[i] == kind {
+            jobs[at] = i as u8 + 1;
+            at = at + 1;
+        }
         i = i + 1;
+    }
+    at
+}
+
+// Lists and counts the jobs kind by kind.
+fn list_jobs(
+    job_kinds: &[u8],
+    total: usize,
+    kinds: usize,
+    counts: &mut [u32],
+    jobs: &mut [u8],
+    begins: &mut [u32],
+) {
+    let mut at: usize = 0;
+    let mut kind: usize = 0;
+    while kind < kinds {
+        let end = list_kind(job_kinds, total, kind as u8 + 1, jobs, at);
+        begins[kind] = at as u32;
+        counts[kind] = (end - at) as u32;
+        at = end;
+        kind = kind + 1;
+    }
+}
+
+// The first place that a_j and the shift permit.
+fn earliest_place(job: u8, first: u8, max_shift: u32) -> u8 {
+    let i = job as u32;
+    if i <= max_shift {
+        return first;
+    }
+    if i - max_shift < first as u32 {
+        return first;
+    }
+    (i - max_shift) as u8
+}
+
+// The last place that b_j and the shift permit. The sum is made only where it is below b_j, so that it fits.
+fn latest_place(job: u8, last: u8, max_shift: u32) -> u8 {
+    if last <= job {
+        return last;
+    }
+    if (last - job) as u32 <= max_shift {
+        return last;
+    }
+    job + max_shift as u8
+}
+
+// The slots of one kind: with n left, the (count - n)th job's.
+fn set_kind_places(
+    jobs: &[u8],
+    from: usize,
+    count: usize,
+    slot: usize,
+    first: u8,
+    last: u8,
+    max_shift: u32,
+    earliest: &mut [u8],
+    latest: &mut [u8],
+) {
+    let mut n: usize = 0;
+    while n < count {
+        let job = jobs[from + (count - 1 - n)];
+        earliest[slot + n] = earliest_place(job, first, max_shift);
+        latest[slot + n] = latest_place(job, last, max_shift);
+        n = n + 1;
+    }
+}
+
+// The slots of every kind.
+fn set_places(
+    queue: Queue,
+    counts: &[u32],
+    begins: &[u32],
+    jobs: &[u8],
+    slots: &mut [usize],
+    earliest: &mut [u8],
+    latest: &mut [u8],
+) {
+    let kinds = queue.kinds as usize;
+    let first = queue.first_places;
+    let last = queue.last_places;
+    let mut kind: usize = 0;
+    while kind < kinds {
+        let from = begins[kind] as usize;
+        slots[kind] = from + kind;
+        set_kind_places(
+            jobs,
+            from,
+            counts[kind] as usize,
+            from + kind,
+            first[kind],
+            last[kind],
+            queue.max_shift,
+            earliest,
+            latest,
+        );
+        kind = kind + 1;
     }
 }
 
 // What one job of each kind counts for in an entry number; returns 01's P.
-fn set_strides(counts: &[u32], kinds: usize, strides: &mut [usize]) -> usize
-    requires { ⌜ (kinds ≤ 5) × ((length (now counts) ≡ 5) × ((length (now strides) ≡ 5) × ((j : ℕ) → j < kinds → getD (now counts) j 0 ≤ 60))) ⌝ }
-    ensures { λ r. ⌜ r ≡ size (take kinds (now (counts .entry))) ⌝ }
-    ensures { λ _. ⌜ ((x : ℕ) → 1 ≤ x → x ≤ kinds → at (now (strides .exit)) x ≡ stride (take kinds (now (counts .entry))) x) ⌝ }
-    ensures { λ _. ⌜ ((x : ℕ) → kinds < x → at (now (strides .exit)) x ≡ at (now (strides .entry)) x) ⌝ }
-{
+fn set_strides(counts: &[u32], kinds: usize, strides: &mut [usize]) -> usize {
     let mut product: usize = 1;
     let mut j: usize = 0;
     while j < kinds {
@@ -56,30 +150,58 @@ fn set_strides(counts: &[u32], kinds: usize, strides: &mut [usize]) -> usize
     product
 }
 
-// Prepares a queue's counts, jobs, strides and P.
-pub fn prepare(queue: Queue) -> Setup
+// Prepares a queue.
+pub fn prepare(queue: Queue) -> Layout
     requires { ⌜ Valid queue ⌝ }
-    ensures { λ r. ⌜ Prepared (problem queue) (r .counts) (r .jobs) (r .strides) (r .block) ⌝ }
+    ensures { λ r. ⌜ Prepared queue r ⌝ }
 {
+    let job_kinds = queue.job_kinds;
+    let kinds = queue.kinds as usize;
     let mut counts = [0u32; 5];
-    let mut jobs = [0u32; 300];
+    let mut jobs = [0u8; 60];
+    let mut begins = [0u32; 5];
+    let mut earliest = [1u8; 65];
+    let mut latest = [0u8; 65];
+    let mut slots = [0usize; 5];
     let mut strides = [0usize; 5];
-    list_jobs(queue, &mut counts, &mut jobs);
-    let n = queue.kinds as usize;
-    let block = set_strides(&counts, n, &mut strides);
-    Setup {
+    list_jobs(
+        &job_kinds,
+        queue.jobs as usize,
+        kinds,
+        &mut counts,
+        &mut jobs,
+        &mut begins,
+    );
+    set_places(
+        queue,
+        &counts,
+        &begins,
+        &jobs,
+        &mut slots,
+        &mut earliest,
+        &mut latest,
+    );
+    let block = set_strides(&counts, kinds, &mut strides);
+    Layout {
+        size: Size {
+            kinds,
+            jobs: queue.jobs,
+            block,
+        },
         counts,
         jobs,
+        begins,
+        earliest,
+        latest,
+        slots,
         strides,
-        block,
     }
 }
 
 // The entries that the table needs: N times P.
-pub fn needed_entries(queue: Queue) -> u64
-    requires { ⌜ Valid queue ⌝ }
-    ensures { λ r. ⌜ r ≡ entries (problem queue) ⌝ }
+pub fn needed_entries(size: Size) -> u64
+    requires { ⌜ size .kinds * size .block < 2 ^ 64 ⌝ }
+    ensures { λ r. ⌜ r ≡ size .kinds * size .block ⌝ }
 {
-    let setup = prepare(queue);
-    queue.kinds as u64 * setup.block as u64
+    size.kinds as u64 * size.block as u64
 }

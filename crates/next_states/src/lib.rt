@@ -1,15 +1,15 @@
-// The table of values: what the next states hold, and the least over them from any row.
+// The next states of one k: what the table holds for them, and the least over them from any row.
 use units::PupilSeconds;
 use units::Seconds;
 ghost use mathlib.Core.Path.{_≡_};
-ghost use mathlib.Core.Bool.{cond, _&&_};
-ghost use mathlib.Core.Option.{none, some};
+ghost use mathlib.Core.Bool.{cond};
+ghost use mathlib.Core.Option.{some};
 ghost use Prim.Native.Nat.{ℕ, min, _+_, _-_, _*_, _^_, _≤_, _<_};
-ghost use lib.Dec.{leb, ltb};
+ghost use lib.Dec.{ltb};
 ghost use lib.ListN.{length, getD};
-ghost use Rattle.sequencing.specs.Least.{only, plus, least, argLeast};
+ghost use Rattle.sequencing.specs.Least.{only, plus};
 ghost use Rattle.sequencing.specs.Entries.{stored};
-ghost use Rattle.next_states.specs.Entries.{loaded, nextValues, candidate, Loadable, Ready};
+ghost use Rattle.next_states.specs.NextStates.{loaded, nextValues, candidate, Loadable, Ready, IsLeast};
 
 // An entry that holds no value.
 pub const NONE: u64 = 18446744073709551615;
@@ -38,7 +38,7 @@ fn step_cost(goal: u32, weight: u64, gap: u32, value: u64) -> u64
 
 // What a next state with this value comes to, NONE where it has none.
 fn next_cost(value: u64, gap: u32, goal: u32, weight: u64) -> u64
-    requires { ⌜ (goal ≡ 1 → weight ≡ 1) × ((v : ℕ) → loaded value ≡ some v → weight * gap + v < 2 ^ 64 - 1) ⌝ }
+    requires { ⌜ (goal ≡ 1 → weight ≡ 1) × ((c : ℕ) → plus (weight * gap) (loaded value) ≡ some c → c < 2 ^ 64 - 1) ⌝ }
     ensures { λ r. ⌜ r ≡ stored (plus (weight * gap) (loaded value)) ⌝ }
 {
     if value == NONE {
@@ -63,9 +63,7 @@ fn lower(best: Least, cost: u64, kind: usize) -> Least
 // fixed length is unrolled.
 pub fn least_of(next: &[u64], gaps: &[u32], row: usize, goal: u32, weight: u64) -> Least
     requires { ⌜ Ready (now next) (now gaps) row weight × (goal ≡ 1 → weight ≡ 1) ⌝ }
-    ensures { λ r. ⌜ r .cost ≡ stored (least (candidate (now (next .entry)) (now (gaps .entry)) row weight) 5) ⌝ }
-    ensures { λ r. ⌜ ((c : ℕ) → least (candidate (now (next .entry)) (now (gaps .entry)) row weight) 5 ≡ some c → r .kind ≡ argLeast (candidate (now (next .entry)) (now (gaps .entry)) row weight) 5) ⌝ }
-    ensures { λ r. ⌜ (least (candidate (now (next .entry)) (now (gaps .entry)) row weight) 5 ≡ none → r .kind ≡ 0) ⌝ }
+    ensures { λ r. ⌜ IsLeast (candidate (now (next .entry)) (now (gaps .entry)) row weight) r ⌝ }
 {
     let mut best = Least {
         cost: NONE,
@@ -73,29 +71,18 @@ pub fn least_of(next: &[u64], gaps: &[u32], row: usize, goal: u32, weight: u64) 
     };
     let mut x: usize = 0;
     while x < 5 {
-        let cost = next_cost(next[x], gaps[5 * row + x], goal, weight);
-        best = lower(best, cost, x + 1);
+        let gap = gaps::gap_after(gaps, row, x + 1);
+        best = lower(best, next_cost(next[x], gap, goal, weight), x + 1);
         x = x + 1;
     }
     best
 }
 
 // The entry of the next state by way of kind x (from 0), NONE where no job of it is left.
-fn next_value(
-    table: &[u64],
-    left: u32,
-    stride: usize,
-    x: usize,
-    kinds: usize,
-    block: usize,
-    index: usize,
-) -> u64
-    requires { ⌜ (x < kinds → 0 < left → (x * block + index < length (now table)) × (stride ≤ index)) ⌝ }
-    ensures { λ r. ⌜ r ≡ stored (only (leb (x + 1) kinds && ltb 0 left) (loaded (getD (now (table .entry)) (x * block + index - stride) 0))) ⌝ }
+fn next_value(table: &[u64], left: u32, stride: usize, x: usize, block: usize, index: usize) -> u64
+    requires { ⌜ (0 < left → (x * block + index < length (now table)) × (stride ≤ index)) ⌝ }
+    ensures { λ r. ⌜ r ≡ stored (only (ltb 0 left) (loaded (getD (now (table .entry)) (x * block + index - stride) 0))) ⌝ }
 {
-    if kinds <= x {
-        return NONE;
-    }
     if left == 0 {
         return NONE;
     }
@@ -107,18 +94,36 @@ pub fn load_next(
     table: &[u64],
     left: &[u32],
     strides: &[usize],
-    kinds: usize,
     block: usize,
     index: usize,
 ) -> [u64; 5]
-    requires { ⌜ Loadable (now table) (now left) (now strides) kinds block index ⌝ }
-    ensures { λ r. ⌜ r ≡ nextValues (now (table .entry)) (now (left .entry)) (now (strides .entry)) kinds block index ⌝ }
+    requires { ⌜ Loadable (now table) (now left) (now strides) block index ⌝ }
+    ensures { λ r. ⌜ r ≡ nextValues (now (table .entry)) (now (left .entry)) (now (strides .entry)) block index ⌝ }
 {
     let mut next = [NONE; 5];
     let mut x: usize = 0;
     while x < 5 {
-        next[x] = next_value(table, left[x], strides[x], x, kinds, block, index);
+        next[x] = next_value(table, left[x], strides[x], x, block, index);
         x = x + 1;
     }
     next
+}
+
+// The least over the next states after row, by the table.
+pub fn best_next(
+    table: &[u64],
+    left: &[u32],
+    strides: &[usize],
+    gaps: &[u32],
+    block: usize,
+    index: usize,
+    row: usize,
+    goal: u32,
+    weight: u64,
+) -> Least
+    requires { ⌜ Loadable (now table) (now left) (now strides) block index × (Ready (nextValues (now table) (now left) (now strides) block index) (now gaps) row weight × (goal ≡ 1 → weight ≡ 1)) ⌝ }
+    ensures { λ r. ⌜ IsLeast (candidate (nextValues (now (table .entry)) (now (left .entry)) (now (strides .entry)) block index) (now (gaps .entry)) row weight) r ⌝ }
+{
+    let next = load_next(table, left, strides, block, index);
+    least_of(&next, gaps, row, goal, weight)
 }

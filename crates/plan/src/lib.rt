@@ -13,7 +13,7 @@ pub struct Plan {
     // 01's T.
     pub jobs: u32,
     // The job at each place.
-    pub order: [u32; 60],
+    pub order: [u8; 60],
 }
 
 // What reading a plan message gives: on a refusal the record is all 0.

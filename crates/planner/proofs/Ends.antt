@@ -10,7 +10,7 @@ use Rattle.refusal.specs.declared.Answer.the-variants.{Refused}
 use Rattle.refusal.specs.Answers.{answerNumber}
 use Rattle.fields.proofs.Codecs.{Bytes as AreBytes}
 use Rattle.queue.specs.Reading.{readQueue}
-use Rattle.best_order.specs.Planning.{Ending, refused, ending, answerOf, Leaves}
+use Rattle.best_order.specs.Endings.{Ending, refused, ending, answerOf, Leaves}
 use Rattle.best_order.specs.BestOrder.{BestOrder}
 use Rattle.best_order.proofs.Best.{best-order}
 use Rattle.making.proofs.Made.{Ends}

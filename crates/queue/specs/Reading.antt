@@ -1,5 +1,5 @@
 -- Reading a queue message: 01's checks, one step a row of its table, in message order.
-use Prim.Native.Nat.{ℕ, suc, _+_, _*_}
+use Prim.Native.Nat.{ℕ, suc, _+_}
 use mathlib.Core.List.{List, [], _∷_, map}
 use lib.ListN.{replicate}
 use lib.Seq.{sets}
@@ -8,6 +8,7 @@ use Rattle.number.specs.Readers.{Found, found, refused, Reader, _>>=_, _>>_, gi
 use Rattle.number.specs.Numbers.{number}
 use Rattle.fields.specs.Fields.{field, within}
 use Rattle.fields.specs.Lists.{filled}
+use Rattle.gaps.specs.Gaps.{gapRow}
 use Rattle.fields.specs.Messages.{opening, end}
 use Rattle.queue.specs.declared.Queue.{Queue}
 use Rattle.refusal.specs.declared.Verdict.the-variants.{Accepted, Refused}
@@ -22,10 +23,10 @@ window = do
   b ← field 3 (λ b. windowOk (a, b)) Places
   give (a, b)
 
--- row i of the gaps stands from 5 × i on
+-- the rows of gaps, each where it begins
 unfoldable pub placed : List ℕ → ℕ → List (List ℕ) → List ℕ
 placed gaps i [] = gaps
-placed gaps i (row ∷ rows) = placed (sets gaps (5 * i) row) (suc i) rows
+placed gaps i (row ∷ rows) = placed (sets gaps (gapRow i) row) (suc i) rows
 
 -- N, goal, shift, start
 unfoldable pub settings : Reader Settings

@@ -5,6 +5,7 @@ use mathlib.Core.List.{List}
 use lib.Dec.{leb}
 use lib.ListN.{getD}
 use Rattle.fields.specs.Lists.{tabulate}
+use Rattle.gaps.specs.Gaps.{gapAt}
 use Rattle.queue.specs.declared.Queue.{Queue}
 
 -- allowed places (a_j, b_j): 11 where a_j is 0, b_j < a_j, or b_j over 60
@@ -12,9 +13,9 @@ abbrev pub windowOk : ℕ × ℕ → Bool
 windowOk w = leb 1 (w .0) && leb (w .0) (w .1) && leb (w .1) 60
 
 module _ (q : Queue) where
-  -- gap(i, j): seconds from the finish of a job of kind i (0: the cold cutter) to that of a job of kind j right after it
+  -- gap(i, j)
   abbrev pub gap : ℕ → ℕ → ℕ
-  gap i j = getD (q .gaps) (5 * i + (j - 1)) 0
+  gap = gapAt (q .gaps)
 
   -- w_j, the pupils waiting for one job of kind j
   abbrev pub weight : ℕ → ℕ

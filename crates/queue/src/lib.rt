@@ -12,17 +12,17 @@ pub struct Queue {
     pub max_shift: u32,
     // 0 for a cold cutter, else the kind cut last.
     pub start: u32,
-    // gap(i, j) stands at 5 * i + (j - 1).
+    // gap(i, j) stands where `gaps` says.
     pub gaps: [u32; 30],
     // Pupils waiting for one job of each kind.
     pub weights: [u32; 5],
     // a_j and b_j, the places allowed to each kind.
-    pub first_places: [u32; 5],
-    pub last_places: [u32; 5],
+    pub first_places: [u8; 5],
+    pub last_places: [u8; 5],
     // 01's T.
     pub jobs: u32,
     // The kind of each job, by hand-in.
-    pub job_kinds: [u32; 60],
+    pub job_kinds: [u8; 60],
 }
 
 // What reading a queue message gives: on a refusal the record is all 0.

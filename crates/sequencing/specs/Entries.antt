@@ -1,7 +1,11 @@
 -- The table's entries: where the pair (L; k) stands, and what stands there.
+use mathlib.Core.Bool.{cond}
 use mathlib.Core.List.{List, [], _∷_}
 use mathlib.Core.Option.{Option, none, some}
+use mathlib.Core.Path.{_≡_}
 use Prim.Native.Nat.{ℕ, zero, suc, pred, _+_, _*_, _/_, _%_, _-_, _^_}
+use lib.Dec.{ltb}
+use lib.ListN.{length, getD}
 use Rattle.sequencing.specs.Problem.{Problem}
 use Rattle.sequencing.specs.States.{allLeft}
 use Rattle.sequencing.specs.Recursion.{value}
@@ -58,3 +62,12 @@ module _ (P : Problem) where
   -- the value that entry n holds: its pair's, none where that is none, so also where k_L = K_L
   abbrev pub entry : ℕ → Option ℕ
   entry n = value P (entryKind n) (entryLeft n)
+
+  -- a filled table's entry n: below N × P the value of its state, 2^64 − 1 where there is none; from there on as it was
+  abbrev pub filledEntry : List ℕ → ℕ → ℕ
+  filledEntry table n = cond (ltb n entries) (stored (entry n)) (getD table n 0)
+
+  -- a table before and after it was filled, entry by entry
+  pub record FilledTable (table table′ : List ℕ) : Type 0 where
+    pub long : length table′ ≡ length table
+    pub entries-are : (n : ℕ) → getD table′ n 0 ≡ filledEntry table n

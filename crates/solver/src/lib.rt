@@ -1,89 +1,132 @@
-// Solving a queue: the table filled, and the best cost.
-use layout::Setup;
+// Solving a queue: the table filled, the best cost from the start, and the order that reaches it.
+use layout::Layout;
 use next_states::Least;
 use queue::Queue;
 ghost use mathlib.Core.Path.{_≡_};
-ghost use mathlib.Core.Bool.{cond};
-ghost use mathlib.Core.Option.{none, some};
-ghost use Prim.Native.Nat.{ℕ, _-_, _≤_, _<_};
-ghost use lib.Dec.{ltb};
-ghost use lib.ListN.{length, getD, take};
+ghost use mathlib.Core.Option.{none};
+ghost use Prim.Native.Nat.{ℕ, _+_, _-_, _≤_, _<_};
+ghost use lib.ListN.{length, getD, set, take};
+ghost use Rattle.fields.specs.Lists.{filled};
 ghost use Rattle.queue.specs.Record.{Valid};
-ghost use Rattle.sequencing.specs.States.{allLeft};
-ghost use Rattle.sequencing.specs.Least.{least, argLeast};
-ghost use Rattle.sequencing.specs.Recursion.{choice, planCost};
-ghost use Rattle.sequencing.specs.Entries.{digits, block, entries, entry, stored};
+ghost use Rattle.sequencing.specs.Lists.{at, sum};
+ghost use Rattle.sequencing.specs.States.{allLeft, complete};
+ghost use Rattle.sequencing.specs.Least.{argLeast};
+ghost use Rattle.sequencing.specs.Recursion.{value, choice, walk, planCost};
+ghost use Rattle.sequencing.specs.Entries.{digits, block, entries, stored, FilledTable};
 ghost use Rattle.sequencing.specs.Counts.{feasibleStates};
 ghost use Rattle.problem.specs.OfQueue.{problem};
+ghost use Rattle.jobs_left.specs.Steps.{LeftAt};
 ghost use Rattle.layout.specs.Prepared.{Prepared};
-ghost use Rattle.filling.specs.Staged.{Earlier};
+ghost use Rattle.filling.specs.Filling.{Earlier};
+ghost use Rattle.solver.specs.Following.{byHandInUpto};
 
-// The best cost, NONE where no order is permitted, and the feasible states; what was prepared, for following the order.
+// The first choice from the start, whose cost is the plan's (NONE where no order is permitted), and the feasible states.
 pub struct Solution {
-    pub cost: u64,
+    pub first: Least,
     pub feasible_states: u64,
-    pub setup: Setup,
 }
 
-// The least over the kinds left after row, and the smallest kind that reaches it, by a filled table.
-pub fn best_next(
-    queue: Queue,
-    setup: Setup,
-    table: &[u64],
-    left: &[u32],
-    row: usize,
-    index: usize,
-) -> Least
-    requires { ⌜ Valid queue × (Prepared (problem queue) (setup .counts) (setup .jobs) (setup .strides) (setup .block) × (Earlier (problem queue) (now table) (block (problem queue)) × ((entries (problem queue) ≤ length (now table)) × ((length (now left) ≡ 5) × ((take (queue .kinds) (now left) ≡ digits (allLeft (problem queue)) index) × ((index < block (problem queue)) × (row ≤ queue .kinds))))))) ⌝ }
-    ensures { λ r. ⌜ r .cost ≡ stored (least (choice (problem queue) row (digits (allLeft (problem queue)) index)) (queue .kinds)) ⌝ }
-    ensures { λ r. ⌜ ((c : ℕ) → least (choice (problem queue) row (digits (allLeft (problem queue)) index)) (queue .kinds) ≡ some c → r .kind ≡ argLeast (choice (problem queue) row (digits (allLeft (problem queue)) index)) (queue .kinds)) ⌝ }
-    ensures { λ r. ⌜ (least (choice (problem queue) row (digits (allLeft (problem queue)) index)) (queue .kinds) ≡ none → r .kind ≡ 0) ⌝ }
-{
-    let kinds = queue.kinds as usize;
-    let gaps = queue.gaps;
-    let weights = queue.weights;
-    let strides = setup.strides;
-    let pupils = jobs_left::weight_left(left, &weights, kinds);
-    let weight = jobs_left::stage_weight(queue.goal, pupils);
-    let next = next_states::load_next(table, left, &strides, kinds, setup.block, index);
-    next_states::least_of(&next, &gaps, row, queue.goal, weight)
-}
-
-// The plan's cost from the start, NONE where no order is permitted.
-fn start_cost(queue: Queue, setup: Setup, table: &[u64]) -> u64
-    requires { ⌜ Valid queue × (Prepared (problem queue) (setup .counts) (setup .jobs) (setup .strides) (setup .block) × (Earlier (problem queue) (now table) (block (problem queue)) × (entries (problem queue) ≤ length (now table)))) ⌝ }
-    ensures { λ r. ⌜ r ≡ stored (planCost (problem queue)) ⌝ }
+// The first choice by a filled table: the plan's cost and its first kind, 0 where there is none.
+fn first_choice(queue: Queue, layout: Layout, table: &[u64]) -> Least
+    requires { ⌜ Valid queue × (Prepared queue layout × (Earlier (problem queue) (now table) (block (problem queue)) × (entries (problem queue) ≤ length (now table)))) ⌝ }
+    ensures { λ r. ⌜ r .cost ≡ stored (planCost (problem queue)) ⌝ }
+    ensures { λ r. ⌜ (0 < queue .jobs → (planCost (problem queue) ≡ none → ⊥) → r .kind ≡ argLeast (choice (problem queue) (queue .start) (allLeft (problem queue))) (queue .kinds)) ⌝ }
+    ensures { λ r. ⌜ (planCost (problem queue) ≡ none → r .kind ≡ 0) × (queue .jobs ≡ 0 → r .kind ≡ 0) ⌝ }
 {
     if queue.jobs == 0 {
-        return 0;
+        return Least { cost: 0, kind: 0 };
     }
-    let counts = setup.counts;
-    let best = best_next(
-        queue,
-        setup,
+    let size = layout.size;
+    let gaps = queue.gaps;
+    let weights = queue.weights;
+    let counts = layout.counts;
+    let strides = layout.strides;
+    let weight = jobs_left::weight_left(&counts, &weights, size.kinds);
+    next_states::best_next(
         table,
         &counts,
+        &strides,
+        &gaps,
+        size.block,
+        size.block - 1,
         queue.start as usize,
-        setup.block - 1,
-    );
-    best.cost
+        queue.goal,
+        jobs_left::step_weight(queue.goal, weight),
+    )
 }
 
 // Fills the table and finds the best cost.
-pub fn solve(queue: Queue, table: &mut [u64]) -> Solution
-    requires { ⌜ Valid queue × (entries (problem queue) ≤ length (now table)) ⌝ }
-    ensures { λ _. ⌜ length (now (table .exit)) ≡ length (now (table .entry)) ⌝ }
-    ensures { λ _. ⌜ ((n : ℕ) → getD (now (table .exit)) n 0 ≡ cond (ltb n (entries (problem queue))) (stored (entry (problem queue) n)) (getD (now (table .entry)) n 0)) ⌝ }
-    ensures { λ r. ⌜ r .cost ≡ stored (planCost (problem queue)) ⌝ }
+pub fn solve(queue: Queue, layout: Layout, table: &mut [u64]) -> Solution
+    requires { ⌜ Valid queue × (Prepared queue layout × (entries (problem queue) ≤ length (now table))) ⌝ }
+    ensures { λ _. ⌜ FilledTable (problem queue) (now (table .entry)) (now (table .exit)) ⌝ }
+    ensures { λ r. ⌜ r .first .cost ≡ stored (planCost (problem queue)) ⌝ }
+    ensures { λ r. ⌜ (0 < queue .jobs → (planCost (problem queue) ≡ none → ⊥) → r .first .kind ≡ argLeast (choice (problem queue) (queue .start) (allLeft (problem queue))) (queue .kinds)) ⌝ }
+    ensures { λ r. ⌜ (planCost (problem queue) ≡ none → r .first .kind ≡ 0) × (queue .jobs ≡ 0 → r .first .kind ≡ 0) ⌝ }
     ensures { λ r. ⌜ r .«feasible_states» ≡ feasibleStates (problem queue) ⌝ }
-    ensures { λ r. ⌜ Prepared (problem queue) (r .setup .counts) (r .setup .jobs) (r .setup .strides) (r .setup .block) ⌝ }
 {
-    let setup = layout::prepare(queue);
-    let feasible_states = filling::fill(queue, setup, table);
-    let cost = start_cost(queue, setup, table);
+    let feasible_states = filling::fill(queue, layout, table);
+    let first = first_choice(queue, layout, table);
     Solution {
-        cost,
+        first,
         feasible_states,
-        setup,
     }
+}
+
+// The next job of a kind (from 0) by hand-in; one fewer is left.
+fn take_job(left: &mut [u32], upto: &[u32], begins: &[u32], jobs: &[u8], kind: usize) -> u8
+    requires { ⌜ (kind < 5) × ((length (now left) ≡ 5) × ((length (now upto) ≡ 5) × ((length (now begins) ≡ 5) × ((1 ≤ getD (now left) kind 0) × ((getD (now left) kind 0 ≤ getD (now upto) kind 0) × (getD (now begins) kind 0 + (getD (now upto) kind 0 - getD (now left) kind 0) < length (now jobs))))))) ⌝ }
+    ensures { λ r. ⌜ r ≡ getD (now (jobs .entry)) (getD (now (begins .entry)) kind 0 + (getD (now (upto .entry)) kind 0 - getD (now (left .entry)) kind 0)) 0 ⌝ }
+    ensures { λ _. ⌜ now (left .exit) ≡ set (now (left .entry)) kind (getD (now (left .entry)) kind 0 - 1) ⌝ }
+{
+    let n = left[kind];
+    left[kind] = n - 1;
+    jobs[(begins[kind] + (upto[kind] - n)) as usize]
+}
+
+// The order of a share of the queue: from the jobs left (their index beside them), each kind up to a job of its own, for so many places. The first kind
+// is the caller's, who has looked it up; then at each place the smallest that reaches the least.
+pub fn follow(
+    queue: Queue,
+    layout: Layout,
+    table: &[u64],
+    from: [u32; 5],
+    upto: [u32; 5],
+    index: usize,
+    first: usize,
+    places: usize,
+) -> [u8; 60]
+    requires { ⌜ Valid queue × (Prepared queue layout × (Earlier (problem queue) (now table) (block (problem queue)) × ((entries (problem queue) ≤ length (now table)) × (LeftAt (problem queue) from index × (((j : ℕ) → 1 ≤ j → j ≤ queue .kinds → (at from j ≤ at upto j) × (at upto j ≤ at (layout .counts) j)) × ((places ≡ sum (digits (allLeft (problem queue)) index)) × (0 < places → (1 ≤ first) × ((first ≤ queue .kinds) × ((0 < at from first) × (value (problem queue) first (complete (digits (allLeft (problem queue)) index) first) ≡ none → ⊥)))))))))) ⌝ }
+    ensures { λ r. ⌜ ((row : ℕ) → (0 < places → first ≡ argLeast (choice (problem queue) row (digits (allLeft (problem queue)) index)) (queue .kinds)) → r ≡ filled 60 (byHandInUpto (problem queue) upto (digits (allLeft (problem queue)) index) (walk (problem queue) places row (digits (allLeft (problem queue)) index)))) ⌝ }
+{
+    let size = layout.size;
+    let gaps = queue.gaps;
+    let weights = queue.weights;
+    let jobs = layout.jobs;
+    let begins = layout.begins;
+    let strides = layout.strides;
+    let mut order = [0u8; 60];
+    let mut left = from;
+    let mut weight = jobs_left::weight_left(&left, &weights, size.kinds);
+    let mut kind = first;
+    let mut at = index;
+    let mut place: usize = 0;
+    while place < places {
+        order[place] = take_job(&mut left, &upto, &begins, &jobs, kind - 1);
+        at = at - strides[kind - 1];
+        weight = weight - weights[kind - 1] as u64;
+        let best = next_states::best_next(
+            table,
+            &left,
+            &strides,
+            &gaps,
+            size.block,
+            at,
+            kind,
+            queue.goal,
+            jobs_left::step_weight(queue.goal, weight),
+        );
+        kind = best.kind;
+        place = place + 1;
+    }
+    order
 }

@@ -1,11 +1,7 @@
 // Planning with a tally of plans and refusals, which goes in and comes back by value.
 use refusal::Answer;
 ghost use mathlib.Core.Path.{_≡_};
-ghost use lib.ListN.{length};
-ghost use Rattle.refusal.specs.Answers.{answerNumber};
-ghost use Rattle.queue.specs.Reading.{readQueue};
-ghost use Rattle.best_order.specs.Planning.{ending, answerOf, Leaves};
-ghost use Rattle.best_order.specs.BestOrder.{BestOrder};
+ghost use Rattle.best_order.specs.Planning.{Planning};
 ghost use Rattle.tally.specs.Tally.{raised, tallied};
 
 // How many calls ended in a plan, and how many in a refusal.
@@ -48,10 +44,8 @@ fn add_answer(tally: Tally, answer: Answer) -> Tally
 
 // Plans a queue message and counts the answer.
 pub fn plan_tallied(message: &[u8], table: &mut [u64], buffer: &mut [u8], tally: Tally) -> Tallied
-    ensures { λ r. ⌜ r .answer ≡ answerOf (ending (readQueue (now (message .entry))) (length (now (table .entry))) (length (now (buffer .entry)))) ⌝ }
+    ensures { λ r. ⌜ Planning (now (message .entry)) (now (table .entry)) (now (buffer .entry)) (now (table .exit)) (now (buffer .exit)) (r .answer) ⌝ }
     ensures { λ r. ⌜ r .tally ≡ tallied (r .answer) tally ⌝ }
-    ensures { λ _. ⌜ Leaves (ending (readQueue (now (message .entry))) (length (now (table .entry))) (length (now (buffer .entry)))) (now (table .entry)) (now (buffer .entry)) (now (table .exit)) (now (buffer .exit)) ⌝ }
-    ensures { λ r. ⌜ BestOrder (now (message .entry)) (now (table .entry)) (now (buffer .entry)) (now (table .exit)) (now (buffer .exit)) (answerNumber (r .answer)) ⌝ }
 {
     let answer = planner::plan(message, table, buffer);
     let after = add_answer(tally, answer);
