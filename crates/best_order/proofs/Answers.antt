@@ -18,7 +18,7 @@ use Rattle.queue.specs.declared.Queue.{Queue}
 use Rattle.queue.specs.Record.{Valid}
 use Rattle.queue.specs.Reading.{readQueue}
 use Rattle.queue_laws.proofs.Theorems.{accepted-valid}
-use Rattle.queue_laws.proofs.Theorems.{queue-refusal, message-needed}
+use Rattle.queue_laws.proofs.Theorems.{queue-refusal, queue-refusal-needed}
 use Rattle.plan.proofs.Theorems.{message-length}
 use Rattle.sequencing.specs.Recursion.{planCost}
 use Rattle.sequencing.specs.Entries.{entries}
@@ -69,4 +69,4 @@ answer-fits s y n room = go (readQueue s .verdict) refl
   where
     go : (v : Verdict) → readQueue s .verdict ≡ v → answerNumber (answerOf (ifAccepted v (endingOf (readQueue s .queue) n room))) < 2 ^ 64
     go Accepted e = queue-fits (readQueue s .queue) (accepted-valid s y e) n room
-    go (NotAccepted r) e = omega (arith, message-needed r (queue-refusal s r e), reason-range r)
+    go (NotAccepted r) e = omega (arith, queue-refusal-needed r (queue-refusal s r e), reason-range r)

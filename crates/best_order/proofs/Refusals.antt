@@ -20,7 +20,7 @@ use Rattle.fields.proofs.Codecs.{Bytes}
 use Rattle.queue.specs.declared.Queue.{Queue}
 use Rattle.queue.specs.Reading.{readQueue}
 use Rattle.queue_laws.proofs.Theorems.{accepted-valid}
-use Rattle.queue_laws.proofs.Theorems.{queue-refusal}
+use Rattle.queue_laws.proofs.Theorems.{queue-refusal, queue-refusal-number}
 use Rattle.sequencing.specs.Orders.{IsOrder, Permitted}
 use Rattle.sequencing.specs.Recursion.{planCost}
 use Rattle.sequencing.specs.Entries.{entries}
@@ -99,7 +99,7 @@ module _ (s : List ℕ) (n room : ℕ) where
   buffer-exactly = ((λ a. go a way), (λ h. ap answerOf (buffer-short (h .0) (h .1))))
     where
       go : answer ≡ Refused Buffer → Way → (readQueue s .verdict ≡ Accepted) × (room < 77)
-      go a (by-message r h e) = absurd (omega (arith, told _ Buffer e a, queue-refusal s r h))
+      go a (by-message r h e) = absurd (omega (arith, told _ Buffer e a, queue-refusal-number r (queue-refusal s r h)))
       go a (by-buffer h l e) = (h, l)
       go a (by-table h l m e) = absurd (omega (arith, told _ Buffer e a))
       go a (by-order h l m c e) = absurd (omega (arith, told _ Buffer e a))
@@ -111,7 +111,7 @@ module _ (s : List ℕ) (n room : ℕ) where
   table-exactly needed = ((λ a. go a way), (λ h. rw (h .3) (ap answerOf (table-short (h .0) (h .1) (h .2)))))
     where
       go : answer ≡ Refused (Table needed) → Way → (readQueue s .verdict ≡ Accepted) × (77 ≤ room) × (n < entries (problem q)) × (needed ≡ entries (problem q))
-      go a (by-message r h e) = absurd (omega (arith, told _ (Table needed) e a, queue-refusal s r h))
+      go a (by-message r h e) = absurd (omega (arith, told _ (Table needed) e a, queue-refusal-number r (queue-refusal s r h)))
       go a (by-buffer h l e) = absurd (omega (arith, told _ (Table needed) e a))
       go a (by-table h l m e) = (h, l, m, same (sym a ∙ ap answerOf e))
         where
@@ -129,7 +129,7 @@ module _ (s : List ℕ) (n room : ℕ) where
   )
     where
       go : answer ≡ Refused NoOrder → Way → (readQueue s .verdict ≡ Accepted) × (77 ≤ room) × (entries (problem q) ≤ n) × ((o : List ℕ) → IsOrder (problem q) o → Permitted (problem q) o → ⊥)
-      go a (by-message r h e) = absurd (omega (arith, told _ NoOrder e a, queue-refusal s r h))
+      go a (by-message r h e) = absurd (omega (arith, told _ NoOrder e a, queue-refusal-number r (queue-refusal s r h)))
       go a (by-buffer h l e) = absurd (omega (arith, told _ NoOrder e a))
       go a (by-table h l m e) = absurd (omega (arith, told _ NoOrder e a))
       go a (by-order h l m c e) = (h, l, m, none-permitted q (accepted-valid s y h) .0 c)

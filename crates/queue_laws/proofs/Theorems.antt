@@ -2,26 +2,21 @@
 -- Assumes nothing.
 use Prim.Native.Nat.{ℕ, _≤_}
 use mathlib.Core.Path.{_≡_, refl, sym, ap, _∙_}
-use mathlib.Core.Bool.{Bool, true}
 use mathlib.Core.Logic.{_↔_}
 use mathlib.Core.List.{List}
 use native.Mathlib.Omega.{arith}
-use lib.Dec.{leb}
 use lib.ListN.{length, take}
-use borrow.Author.Tests.{leb-true}
 use Rattle.refusal.specs.declared.Reason.{Reason}
-use Rattle.refusal.specs.declared.Reason.the-variants.{Opening, Ends, Groups, Edition, Kinds, Goal, Shift, Start, Gap, Pupils, Places, Jobs, Kind, LeftOver, Buffer, Table, NoOrder, Job}
 use Rattle.refusal.specs.declared.Verdict.the-variants.{Accepted, Refused}
 use Rattle.refusal.specs.Reasons.{reasonNumber, needed}
 use Rattle.number.specs.Readers.{Found, found, refused}
-use Rattle.fields.specs.Fields.{all}
 use Rattle.fields.proofs.Codecs.{Bytes}
-use Rattle.fields.proofs.Tables.{all-true}
 use Rattle.queue.specs.declared.Queue.{Queue}
 use Rattle.queue.specs.declared.Reading.{Reading}
 use Rattle.queue.specs.Record.{Valid, Fits}
 use Rattle.queue.specs.Reading.{queue, accepted, asReading, readQueue, cleared}
 use Rattle.queue.specs.Writing.{message, judge}
+use Rattle.queue.specs.Refusals.{QueueRefusal, on-opening, on-ends, on-malformed, on-edition, on-kinds, on-goal, on-shift, on-start, on-gap, on-pupils, on-places, on-jobs, on-kind, on-left-over}
 use Rattle.formats.proofs.Formats.{arises-in}
 use Rattle.queue_laws.proofs.Queues.{queueRefusals, queue-message}
 
@@ -85,38 +80,49 @@ valid-judged q v = queue-message .accepts q .1 v
 
 -- ---- refusals
 
--- one of 01's refusals 1 to 14
-abbrev pub OfMessage : Reason → Type 0
-OfMessage r = reasonNumber r ≤ 14
-
-pub queue-refusal : (s : List ℕ) (r : Reason) → readQueue s .verdict ≡ Refused r → OfMessage r
-unfolding readQueue all
+-- the refusals of queue messages are 01's 1 to 14 ..
+pub queue-refusal : (s : List ℕ) (r : Reason) → readQueue s .verdict ≡ Refused r → QueueRefusal r
+unfolding readQueue
 queue-refusal s r e =
-    let low : Reason → Bool = λ r. leb (reasonNumber r) 14 in
-    leb-true (reasonNumber r) 14 (arises-in (λ r. low r ≡ true) refl refl queueRefusals (all-true low queueRefusals refl) r (queue-message .gives s r (refused-as (queue s 0) r e)))
+    arises-in QueueRefusal on-ends on-malformed queueRefusals
+    (on-opening, (on-left-over, (on-edition, (on-kinds, (on-goal, (on-shift, (on-start, (on-gap, (on-pupils, (on-places, (on-jobs, (on-kind, tt)))))))))))) r
+    (queue-message .gives s r (refused-as (queue s 0) r e))
+
+-- .. which carry nothing
+pub queue-refusal-needed : (r : Reason) → QueueRefusal r → needed r ≡ 0
+queue-refusal-needed r on-opening = refl
+queue-refusal-needed r on-ends = refl
+queue-refusal-needed r on-malformed = refl
+queue-refusal-needed r on-edition = refl
+queue-refusal-needed r on-kinds = refl
+queue-refusal-needed r on-goal = refl
+queue-refusal-needed r on-shift = refl
+queue-refusal-needed r on-start = refl
+queue-refusal-needed r on-gap = refl
+queue-refusal-needed r on-pupils = refl
+queue-refusal-needed r on-places = refl
+queue-refusal-needed r on-jobs = refl
+queue-refusal-needed r on-kind = refl
+queue-refusal-needed r on-left-over = refl
+
+-- .. and whose numbers say so
+pub queue-refusal-number : (r : Reason) → QueueRefusal r → reasonNumber r ≤ 14
+queue-refusal-number r on-opening = omega arith
+queue-refusal-number r on-ends = omega arith
+queue-refusal-number r on-malformed = omega arith
+queue-refusal-number r on-edition = omega arith
+queue-refusal-number r on-kinds = omega arith
+queue-refusal-number r on-goal = omega arith
+queue-refusal-number r on-shift = omega arith
+queue-refusal-number r on-start = omega arith
+queue-refusal-number r on-gap = omega arith
+queue-refusal-number r on-pupils = omega arith
+queue-refusal-number r on-places = omega arith
+queue-refusal-number r on-jobs = omega arith
+queue-refusal-number r on-kind = omega arith
+queue-refusal-number r on-left-over = omega arith
 
 -- a record that fits a message: the writer refuses it with the refusal that the reader would give its message
 pub refused-alike : (q : Queue) (r : Reason) → Fits q → judge q ≡ Refused r → readQueue (message q) .verdict ≡ Refused r
 unfolding readQueue
 refused-alike q r k j = ap (λ (f : Found Queue). asReading f .verdict) (queue-message .refuses q r k j)
-
--- .. which carry nothing
-pub message-needed : (r : Reason) → OfMessage r → needed r ≡ 0
-message-needed Opening h = refl
-message-needed Ends h = refl
-message-needed Groups h = refl
-message-needed Edition h = refl
-message-needed Kinds h = refl
-message-needed Goal h = refl
-message-needed Shift h = refl
-message-needed Start h = refl
-message-needed Gap h = refl
-message-needed Pupils h = refl
-message-needed Places h = refl
-message-needed Jobs h = refl
-message-needed Kind h = refl
-message-needed LeftOver h = refl
-message-needed Buffer h = refl
-message-needed (Table n) h = absurd (omega arith)
-message-needed NoOrder h = refl
-message-needed Job h = refl
