@@ -9,10 +9,9 @@ use native.Mathlib.Nat.{mod-lt, mod-add-div, mod-eq-of-lt, div-eq-of-lt, mod-sel
 use borrow.Author.Tests.{lt-ltb, le-ltb, ltb-true, ltb-false}
 use lib.Dec.{ltb}
 use lib.ListN.{length, getD, take, drop, set, replicate, length-set}
-use lib.Seq.{take-add, take-suc-set, drop-set-lt, getD-set-other}
+use lib.Seq.{take-add, take-suc-set, drop-set-lt}
 use Rattle.fields.specs.Fields.{part}
 use Rattle.fields.proofs.Parts.{part-more}
-use Rattle.sequencing.specs.Lists.{at}
 use Rattle.sequencing.specs.Entries.{digits}
 use Rattle.sequencing.proofs.Counting.{bool-cases}
 use Rattle.jobs_left.specs.Steps.{next}
@@ -60,7 +59,6 @@ pub record Stepping (counts left₀ : List ℕ) (kinds : ℕ) (left : List ℕ) 
   pub long : length left ≡ length left₀
   pub means : next (take kinds counts) (take kinds left₀) ≡ take j left ++ next (part j (kinds - j) counts) (part j (kinds - j) left)
   pub past : drop kinds left ≡ drop kinds left₀
-  pub still : (L : ℕ) → j < L → at left L ≡ at left₀ L
 
 front-set : (n : ℕ) (l : List ℕ) (j a : ℕ) → j < n → j < length l → take n (set l j a) ≡ take j l ++ a ∷ part (j + 1) (n - (j + 1)) l
 front-set n l j a h r =
@@ -69,17 +67,14 @@ front-set n l j a h r =
     ap (λ m. take m (set l j a)) e ∙ take-add (suc j) (n - (j + 1)) (set l j a)
     ∙ rw (take-suc-set l j a r, drop-set-lt (suc j) l j a (omega arith), f) (append-assoc (take j l) (a ∷ []) (part (suc j) (n - suc j) l))
 
-module _ (counts left₀ : List ℕ) (kinds : ℕ) where
+module _ {counts left₀ : List ℕ} {kinds : ℕ} where
   pub stepping-none : Stepping counts left₀ kinds left₀ 0
-  stepping-none = let e : kinds - 0 ≡ kinds = omega arith in record { few = omega arith; long = refl; means = rw e; past = refl; still = λ L l. refl }
+  stepping-none = let e : kinds - 0 ≡ kinds = omega arith in record { few = omega arith; long = refl; means = rw e; past = refl }
 
-  module _ (all-counts : kinds ≤ length counts) (all-left : kinds ≤ length left₀) (left : List ℕ) (j : ℕ) (w : Stepping counts left₀ kinds left j) where
+  module _ {left : List ℕ} {j : ℕ} (all-counts : kinds ≤ length counts) (all-left : kinds ≤ length left₀) (w : Stepping counts left₀ kinds left j) where
     -- the first kind of those from j
     here : (l : List ℕ) → kinds ≤ length l → j < kinds → part j (kinds - j) l ≡ getD l j 0 ∷ part (j + 1) (kinds - (j + 1)) l
     here l r h = let e : kinds - j - 1 ≡ kinds - (j + 1) = omega arith in part-more l j (kinds - j) (omega arith) (omega arith) ∙ rw e
-
-    set-still : (a L : ℕ) → j + 1 < L → at (set left j a) L ≡ at left₀ L
-    set-still a (suc k) l = getD-set-other left j k a 0 (λ e. omega arith) ∙ w .still (suc k) (omega arith)
 
     pub stepping-more : j < kinds → getD counts j 0 ≤ getD left j 0 → Stepping counts left₀ kinds (set left j 0) (j + 1)
     unfolding next
@@ -92,25 +87,24 @@ module _ (counts left₀ : List ℕ) (kinds : ℕ) where
           means = w .means ∙ rw (here counts all-counts h, here left r h, le-ltb (getD left j 0) (getD counts j 0) t, f, take-suc-set left j 0 (omega arith), drop-set-lt (suc j) left j 0 (omega arith))
               (sym (append-assoc (take j left) (0 ∷ []) (next (part (suc j) (kinds - suc j) counts) (part (suc j) (kinds - suc j) left))));
           past = drop-set-lt kinds left j 0 h ∙ w .past;
-          still = set-still 0;
         }
 
     pub stepping-out : j < kinds → getD left j 0 < getD counts j 0
         → (take kinds (set left j (getD left j 0 + 1)) ≡ next (take kinds counts) (take kinds left₀))
-        × ((drop kinds (set left j (getD left j 0 + 1)) ≡ drop kinds left₀) × ((j + 1 ≤ kinds) × ((L : ℕ) → j + 1 < L → at (set left j (getD left j 0 + 1)) L ≡ at left₀ L)))
+        × (drop kinds (set left j (getD left j 0 + 1)) ≡ drop kinds left₀)
     unfolding next
     stepping-out h t =
         let r : kinds ≤ length left = omega (arith, w .long) in
         let f : getD left j 0 + 1 ≡ suc (getD left j 0) = omega arith in (
           front-set kinds left j (getD left j 0 + 1) h (omega arith) ∙ sym (w .means ∙ rw (here counts all-counts h, here left r h, lt-ltb (getD left j 0) (getD counts j 0) t, f)),
-          (drop-set-lt kinds left j (getD left j 0 + 1) h ∙ w .past, (omega arith, set-still (getD left j 0 + 1))),
+          drop-set-lt kinds left j (getD left j 0 + 1) h ∙ w .past,
         )
 
-    pub stepping-done : kinds ≤ j → (take kinds left ≡ next (take kinds counts) (take kinds left₀)) × ((drop kinds left ≡ drop kinds left₀) × ((j ≤ kinds) × ((L : ℕ) → j < L → at left L ≡ at left₀ L)))
+    pub stepping-done : kinds ≤ j → (take kinds left ≡ next (take kinds counts) (take kinds left₀)) × (drop kinds left ≡ drop kinds left₀)
     unfolding next
     stepping-done h =
         let e : kinds ≡ j = omega (arith, w .few) in
         let z : kinds - j ≡ 0 = omega arith in (
           ap (λ n. take n left) e ∙ sym (w .means ∙ rw z (append-nil (take j left))),
-          (w .past, (w .few, w .still)),
+          w .past,
         )

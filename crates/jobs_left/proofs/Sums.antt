@@ -23,41 +23,41 @@ weigh-set f (c ∷ cs) zero a h = omega arith
 weigh-set f (c ∷ cs) (suc j) a h = omega (arith, weigh-set (λ i. f (suc i)) cs j a (omega arith))
 
 -- the sums of the counts so far, which only fall
-pub record Carried (weights left : List ℕ) (kinds remaining₀ weight₀ remaining weight : ℕ) : Type 0 where
-  pub sums : Summed weights (take kinds left) remaining weight
-  pub fewer : remaining ≤ remaining₀
+pub record Carried (weights left : List ℕ) (kinds jobs₀ weight₀ jobs weight : ℕ) : Type 0 where
+  pub sums : Summed weights (take kinds left) jobs weight
+  pub fewer : jobs ≤ jobs₀
   pub lighter : weight ≤ weight₀
 
-module _ (weights left : List ℕ) (kinds : ℕ) (all-left : kinds ≤ length left) (remaining₀ weight₀ remaining weight : ℕ) (w : Carried weights left kinds remaining₀ weight₀ remaining weight) (j : ℕ) (h : j < kinds) where
+module _ {weights left : List ℕ} {kinds jobs₀ weight₀ jobs weight : ℕ} (all-left : kinds ≤ length left) (w : Carried weights left kinds jobs₀ weight₀ jobs weight) (j : ℕ) (h : j < kinds) where
   -- one count set anew
-  sums-set : (a : ℕ) → (sum (take kinds (set left j a)) + getD left j 0 ≡ remaining + a)
+  sums-set : (a : ℕ) → (sum (take kinds (set left j a)) + getD left j 0 ≡ jobs + a)
       × (weigh (λ i. getD weights (i - 1) 0) (take kinds (set left j a)) + getD left j 0 * getD weights j 0 ≡ weight + a * getD weights j 0)
   sums-set a =
       let f : ℕ → ℕ = λ i. getD weights (i - 1) 0 in
       let room : j < length (take kinds left) = omega (arith, length-take-le kinds left all-left) in
       let there : getD (take kinds left) j 0 ≡ getD left j 0 = getD-take kinds left j 0 h in
       let s : suc j - 1 ≡ j = omega arith in
-      rw (take-set-lt kinds left j a h, w .sums .jobs, w .sums .pupils, ← there)
+      rw (take-set-lt kinds left j a h, w .sums .jobs-are, w .sums .weight-is, ← there)
       (sum-set (take kinds left) j a room, rw s at (weigh-set f (take kinds left) j a room))
 
-  pub some-left : getD left j 0 ≤ remaining
+  pub some-left : getD left j 0 ≤ jobs
   some-left = omega (arith, sums-set 0)
 
   pub some-weight : getD left j 0 * getD weights j 0 ≤ weight
   some-weight = omega (arith, sums-set 0 .1, zero-mul (getD weights j 0))
 
-  pub carried-more : Carried weights (set left j 0) kinds remaining₀ weight₀ (remaining - getD left j 0) (weight - getD left j 0 * getD weights j 0)
+  pub carried-more : Carried weights (set left j 0) kinds jobs₀ weight₀ (jobs - getD left j 0) (weight - getD left j 0 * getD weights j 0)
   carried-more = record {
-    sums = record { jobs = omega (arith, sums-set 0 .0); pupils = omega (arith, sums-set 0 .1, zero-mul (getD weights j 0)) };
+    sums = record { jobs-are = omega (arith, sums-set 0 .0); weight-is = omega (arith, sums-set 0 .1, zero-mul (getD weights j 0)) };
     fewer = omega (arith, w .fewer);
     lighter = omega (arith, w .lighter);
   }
 
-  pub carried-out : Summed weights (take kinds (set left j (getD left j 0 + 1))) (remaining + 1) (weight + getD weights j 0)
+  pub carried-out : Summed weights (take kinds (set left j (getD left j 0 + 1))) (jobs + 1) (weight + getD weights j 0)
   carried-out =
       let n = getD left j 0 in
       let m = getD weights j 0 in
       record {
-        jobs = omega (arith, sums-set (n + 1) .0);
-        pupils = omega (arith, sums-set (n + 1) .1, add-mul n 1 m, one-mul m);
+        jobs-are = omega (arith, sums-set (n + 1) .0);
+        weight-is = omega (arith, sums-set (n + 1) .1, add-mul n 1 m, one-mul m);
       }

@@ -1,8 +1,8 @@
 -- `jobs_left::step_left` meets its contract: `Stepping` and `Carried` are the invariant; the kinds left fall.
 -- Assumes nothing.
-use Prim.Native.Nat.{_-_, _≤_}
+use Prim.Native.Nat.{_-_, _*_, _^_, _≤_, _<_}
 use native.Mathlib.Omega.{arith}
-use lib.ListN.{length}
+use lib.ListN.{length, getD}
 use Rattle.jobs_left.proofs.Stepping.{Stepping, stepping-none, stepping-more, stepping-out, stepping-done}
 use Rattle.jobs_left.proofs.Sums.{Carried, some-left, some-weight, carried-more, carried-out}
 use borrow.Author.Needs.{needs}
@@ -10,57 +10,76 @@ use Rattle.jobs_left.proofs.step_left.Statement.{statement}
 use Rattle.jobs_left.proofs.step_left.Tie as tie
 
 abbrev Inv-loop : tie.InvT-loop
-Inv-loop left₀ counts weights kinds remaining₀ weight₀ j₀ left remaining weight j = Stepping counts left₀ kinds left j × Carried weights left kinds remaining₀ weight₀ remaining weight
+Inv-loop left₀ counts weights kinds index jobs₀ weight₀ j₀ left jobs weight j = Stepping counts left₀ kinds left j × Carried weights left kinds jobs₀ weight₀ jobs weight
 
 abbrev μ-loop : tie.MeasureT-loop
-μ-loop left₀ counts weights kinds remaining₀ weight₀ j₀ left remaining weight j = kinds - j
+μ-loop left₀ counts weights kinds index jobs₀ weight₀ j₀ left jobs weight j = kinds - j
 
-long : (c : tie.At-loop Inv-loop μ-loop) → c .before .args .kinds ≤ length (c .loop .left)
-long c = omega (arith, c .loop .inv .0 .long, c .before .pre)
+-- the places: the function's entry, the loop's turn, and the turn with its count, weight and bound read
+abbrev entry : tie.At-loop Inv-loop μ-loop → tie.Start Inv-loop μ-loop
+entry t = t .before .before
+
+abbrev turn : tie.In-loop Inv-loop μ-loop → tie.At-loop Inv-loop μ-loop
+turn t = t .before
+
+abbrev read : tie.After-shared-slice-known2 Inv-loop μ-loop → tie.In-loop Inv-loop μ-loop
+read t = t .before .before .before
+
+-- the sums are no larger than at the entry, so that one job more fits
+small : (t : tie.At-loop Inv-loop μ-loop) → (t .loop .jobs < 2 ^ 31) × (t .loop .weight < 2 ^ 63)
+small t = let s = entry t .pre .1 .1 .1 .1 .1 in (omega (arith, t .loop .inv .1 .fewer, s), omega (arith, t .loop .inv .1 .lighter, s))
+
+long : (t : tie.At-loop Inv-loop μ-loop) → entry t .args .kinds ≤ length (t .loop .left)
+long t = omega (arith, t .loop .inv .0 .long, entry t .pre)
+
+few : (t : tie.In-loop Inv-loop μ-loop) → getD (turn t .loop .left) (turn t .loop .j) 0 ≤ turn t .loop .jobs
+few t = some-left (long (turn t)) (turn t .loop .inv .1) _ (t .loop-test .taken)
+
+light : (t : tie.In-loop Inv-loop μ-loop) → getD (turn t .loop .left) (turn t .loop .j) 0 * getD (entry (turn t) .args .weights .now) (turn t .loop .j) 0 ≤ turn t .loop .weight
+light t = some-weight (long (turn t)) (turn t .loop .inv .1) _ (t .loop-test .taken)
 
 loop-holds : tie.Need-loop-holds Inv-loop μ-loop
-loop-holds c = (stepping-none _ _ _, record { sums = c .pre .1 .1 .1 .1 .0; fewer = omega arith; lighter = omega arith })
+loop-holds c = (stepping-none, record { sums = c .before .pre .1 .1 .1 .1 .0; fewer = omega arith; lighter = omega arith })
 
 cast-w : tie.Need-cast-w Inv-loop μ-loop
-cast-w c = omega (arith, c .shared-slice-known .given (c .before .before .before .loop .j))
+cast-w c = omega (arith, c .shared-slice-known .given (turn (c .before .before) .loop .j))
 
 add-left : tie.Need-add-left Inv-loop μ-loop
-add-left c = omega (arith, c .before .shared-slice-known2 .given (c .before .before .before .before .before .loop .j))
-
-add-t17 : tie.Need-add-t17 Inv-loop μ-loop
-add-t17 c = omega (arith, c .before .before .before .before .before .loop .inv .1 .fewer, c .before .before .before .before .before .before .pre .1 .1 .1 .1 .1)
+add-left c = omega (arith, c .before .shared-slice-known2 .given (turn (read (c .before)) .loop .j))
 
 add-t18 : tie.Need-add-t18 Inv-loop μ-loop
-add-t18 c = omega (arith, c .before .before .before .before .loop-test .taken, c .before .before .before .before .before .before .pre .0)
+add-t18 c = omega (arith, small (turn (read (c .before))))
 
-add-t20 : tie.Need-add-t20 Inv-loop μ-loop
-add-t20 c = omega (arith, c .before .before .before .before .before .loop .inv .1 .lighter, c .before .before .before .before .before .before .pre .1 .1 .1 .1 .1, c .before .before .shared-slice-known .given (c .before .before .before .before .before .loop .j))
+add-t21 : tie.Need-add-t21 Inv-loop μ-loop
+add-t21 c = omega (arith, small (turn (read (c .before))), c .before .before .shared-slice-known .given (turn (read (c .before)) .loop .j))
 
 returns : tie.Need-returns Inv-loop μ-loop
 returns c =
-    let out = stepping-out _ _ _ (omega arith) (omega arith) _ _ (c .before .before .before .before .before .loop .inv .0) (c .before .before .before .before .loop-test .taken) (c .if1 .taken) in
-    (out .0, (out .1 .0, (out .1 .1, carried-out _ _ _ (long (c .before .before .before .before .before)) _ _ _ _ (c .before .before .before .before .before .loop .inv .1) _ (c .before .before .before .before .loop-test .taken))))
+    let t = read (c .before) in
+    let out = stepping-out (omega arith) (omega arith) (turn t .loop .inv .0) (t .loop-test .taken) (c .if1 .taken) in
+    (out .0, (out .1, (carried-out (long (turn t)) (turn t .loop .inv .1) _ (t .loop-test .taken), search needs)))
 
-sub-remaining : tie.Need-sub-remaining Inv-loop μ-loop
-sub-remaining c = some-left _ _ _ (long (c .before .before .before .before .before)) _ _ _ _ (c .before .before .before .before .before .loop .inv .1) _ (c .before .before .before .before .loop-test .taken)
+sub-jobs : tie.Need-sub-jobs Inv-loop μ-loop
+sub-jobs c = few (read (c .before))
 
 cast-weight : tie.Need-cast-weight Inv-loop μ-loop
-cast-weight c = omega (arith, some-left _ _ _ (long (c .before .before .before .before .before)) _ _ _ _ (c .before .before .before .before .before .loop .inv .1) _ (c .before .before .before .before .loop-test .taken), c .before .before .before .before .before .loop .inv .1 .fewer, c .before .before .before .before .before .before .pre .1 .1 .1 .1 .1)
+cast-weight c = let t = read (c .before) in omega (arith, few t, small (turn t))
 
 mul-weight : tie.Need-mul-weight Inv-loop μ-loop
-mul-weight c = omega (arith, some-weight _ _ _ (long (c .before .before .before .before .before)) _ _ _ _ (c .before .before .before .before .before .loop .inv .1) _ (c .before .before .before .before .loop-test .taken), c .before .before .before .before .before .loop .inv .1 .lighter, c .before .before .before .before .before .before .pre .1 .1 .1 .1 .1)
+mul-weight c = let t = read (c .before) in omega (arith, light t, small (turn t))
 
 sub-weight : tie.Need-sub-weight Inv-loop μ-loop
-sub-weight c = some-weight _ _ _ (long (c .before .before .before .before .before)) _ _ _ _ (c .before .before .before .before .before .loop .inv .1) _ (c .before .before .before .before .loop-test .taken)
+sub-weight c = light (read (c .before))
 
 loop-again : tie.Need-loop-again Inv-loop μ-loop
 loop-again c =
-    (stepping-more _ _ _ (omega arith) (omega arith) _ _ (c .before .before .before .before .before .loop .inv .0) (c .before .before .before .before .loop-test .taken) (c .if1 .left), carried-more _ _ _ (long (c .before .before .before .before .before)) _ _ _ _ (c .before .before .before .before .before .loop .inv .1) _ (c .before .before .before .before .loop-test .taken))
+    let t = read (c .before) in
+    (stepping-more (omega arith) (omega arith) (turn t .loop .inv .0) (t .loop-test .taken) (c .if1 .left), carried-more (long (turn t)) (turn t .loop .inv .1) _ (t .loop-test .taken))
 
 returns-2 : tie.Need-returns-2 Inv-loop μ-loop
 returns-2 c =
-    let done = stepping-done _ _ _ (omega arith) (omega arith) _ _ (c .before .loop .inv .0) (c .loop-test .left) in
-    (done .0, (done .1 .0, (done .1 .1, c .before .loop .inv .1 .sums)))
+    let done = stepping-done (omega arith) (omega arith) (c .before .loop .inv .0) (c .loop-test .left) in
+    (done .0, (done .1, (c .before .loop .inv .1 .sums, search needs)))
 
 pub step-left-spec : {M : Type 1} → statement M
 step-left-spec =
@@ -68,6 +87,7 @@ step-left-spec =
     (tie.spec
     Inv-loop
     μ-loop
+    (λ c. search needs)
     loop-holds
     (λ c. search needs)
     (λ c. search needs)
@@ -80,11 +100,10 @@ step-left-spec =
     (λ c. search needs)
     (λ c. search needs)
     add-t18
-    add-t17
-    add-t20
+    add-t21
     (λ c. search needs)
     returns
-    sub-remaining
+    sub-jobs
     cast-weight
     mul-weight
     sub-weight

@@ -1,8 +1,8 @@
--- `jobs_left::stage_weight` meets its contract.
+-- `jobs_left::step_weight` meets its contract.
 -- Assumes nothing.
 use borrow.Author.Tests.{eq-eqb, ne-eqb}
-use Rattle.jobs_left.proofs.stage_weight.Statement.{statement}
-use Rattle.jobs_left.proofs.stage_weight.Tie as tie
+use Rattle.jobs_left.proofs.step_weight.Statement.{statement}
+use Rattle.jobs_left.proofs.step_weight.Tie as tie
 
 returns : tie.Need-returns
 returns c = rw (eq-eqb _ _ (c .if1 .taken))
@@ -10,8 +10,8 @@ returns c = rw (eq-eqb _ _ (c .if1 .taken))
 returns-2 : tie.Need-returns-2
 returns-2 c = rw (ne-eqb _ _ (c .if1 .left))
 
-pub stage-weight-spec : {M : Type 1} → statement M
-stage-weight-spec =
+pub step-weight-spec : {M : Type 1} → statement M
+step-weight-spec =
     tie.close
     (tie.spec
     returns
