@@ -1,37 +1,73 @@
--- The start: all jobs are left, at the last index.
+-- The start: all jobs are left, at the last index, and what follows from there is the plan.
 -- Assumes nothing.
 use Prim.Native.Nat.{ℕ, suc, _-_, _≤_, _<_}
 use mathlib.Core.List.{List, [], _∷_}
+use mathlib.Core.Option.{none}
 use mathlib.Core.Path.{_≡_, refl, sym, ap, _∙_}
 use native.Mathlib.Nat.{mul-suc}
 use native.Mathlib.Omega.{arith}
-use lib.ListN.{take}
 use Rattle.queue.specs.declared.Queue.{Queue}
 use Rattle.queue.specs.Record.{Valid}
-use Rattle.sequencing.specs.States.{allLeft}
+use Rattle.sequencing.specs.Lists.{at, sum}
+use Rattle.sequencing.specs.States.{complete, allLeft}
+use Rattle.sequencing.specs.Least.{argLeast}
+use Rattle.sequencing.specs.Recursion.{value, choice, walk, planCost, planKinds, planOrder}
 use Rattle.sequencing.specs.Entries.{size, index, digits, block}
+use Rattle.sequencing.proofs.AllJobs.{at-all, all-left, sum-all}
 use Rattle.sequencing.proofs.Radix.{size-pos, digits-index}
+use Rattle.sequencing.proofs.Recursion.{walk-is}
 use Rattle.problem.specs.OfQueue.{problem}
+use Rattle.problem.proofs.Rule.{jobs-is, proper}
+use Rattle.problem.proofs.Queues.{plan-some-jobs}
+use Rattle.jobs_left.specs.Steps.{LeftAt}
+use Rattle.layout.specs.declared.Layout.{Layout}
 use Rattle.layout.specs.Prepared.{Prepared}
-use Rattle.layout.proofs.Preparing.{counts-all}
+use Rattle.solver.specs.Following.{byHandInUpto}
+use Rattle.solver.proofs.Walking.{some-cost, Takes, takes-next, upto-all}
+use Rattle.layout.proofs.Prepared.{counts-at, counts-take, counts-long, counts-past}
 
 index-last : (cs : List ℕ) → suc (index cs cs) ≡ size cs
 unfolding index size
 index-last [] = refl
 index-last (c ∷ cs) = rw (← (index-last cs), mul-suc (suc c) (index cs cs)) (omega arith)
 
-module _ (q : Queue) (v : Valid q) (counts jobs strides : List ℕ) (n : ℕ) (p : Prepared (problem q) counts jobs strides n) where
-  pub some-block : 1 ≤ n
-  some-block = omega (arith, p .size-is, size-pos (allLeft (problem q)))
+pub all-jobs : {q : Queue} → Valid q → sum (allLeft (problem q)) ≡ q .jobs
+all-jobs {q} v = sum-all (problem q) (proper q v) ∙ jobs-is q
 
-  pub last-in : n - 1 < block (problem q)
-  last-in = omega (arith, p .size-is, size-pos (allLeft (problem q)))
+module _ {q : Queue} {l : Layout} (v : Valid q) (p : Prepared q l) where
+  pub some-block : 1 ≤ l .size .block
+  some-block = omega (arith, p .block-is, size-pos (allLeft (problem q)))
 
-  pub last-is : digits (allLeft (problem q)) (n - 1) ≡ allLeft (problem q)
+  pub last-is : digits (allLeft (problem q)) (l .size .block - 1) ≡ allLeft (problem q)
   last-is =
       let a = allLeft (problem q) in
-      let e : n - 1 ≡ index a a = omega (arith, p .size-is, index-last a) in
+      let e : l .size .block - 1 ≡ index a a = omega (arith, p .block-is, index-last a) in
       ap (digits a) e ∙ digits-index a a refl (λ j. omega arith)
 
-  pub start-here : take (q .kinds) counts ≡ digits (allLeft (problem q)) (n - 1)
-  start-here = counts-all q v counts jobs (p .listed) (p .counts-long) ∙ sym last-is
+  pub start-left : LeftAt (problem q) (l .counts) (l .size .block - 1)
+  start-left = record {
+    long = counts-long v p;
+    here = counts-take v p ∙ sym last-is;
+    past = counts-past v p;
+    within = omega (arith, p .block-is, size-pos (allLeft (problem q)));
+  }
+
+  pub start-places : q .jobs ≡ sum (digits (allLeft (problem q)) (l .size .block - 1))
+  start-places = rw last-is (sym (all-jobs v))
+
+  module _ (some-plan : planCost (problem q) ≡ none → ⊥) where
+    -- the first kind can be taken
+    pub start-takes : (x : ℕ) → 0 < q .jobs → x ≡ argLeast (choice (problem q) (q .start) (allLeft (problem q))) (q .kinds)
+        → (1 ≤ x) × ((x ≤ q .kinds) × ((0 < at (l .counts) x) × (value (problem q) x (complete (digits (allLeft (problem q)) (l .size .block - 1)) x) ≡ none → ⊥)))
+    start-takes x h e =
+        let (c, f) = some-cost (planCost (problem q)) some-plan in
+        let t = rw (← e) at (takes-next (problem q) (q .start) (allLeft (problem q)) c (sym (plan-some-jobs q v h) ∙ f)) in
+        rw (last-is) (t .low, (t .high, (omega (arith, counts-at v p x (t .low) (t .high), at-all (problem q) x (t .low) (t .high), t .some-left), t .found)))
+
+    -- the jobs of the walk from the start, all of each kind, are the plan's order
+    pub order-is : byHandInUpto (problem q) (l .counts) (allLeft (problem q)) (walk (problem q) (sum (allLeft (problem q))) (q .start) (allLeft (problem q))) ≡ planOrder (problem q)
+    unfolding planCost planKinds planOrder
+    order-is =
+        let P = problem q in
+        let (c, f) = some-cost (planCost P) some-plan in
+        upto-all P (l .counts) (counts-at v p) (allLeft P) (walk P (sum (allLeft P)) (q .start) (allLeft P)) (all-left P) (walk-is P (sum (allLeft P)) (q .start) (allLeft P) c refl f .0)

@@ -80,7 +80,7 @@ fn take_job(left: &mut [u32], upto: &[u32], begins: &[u32], jobs: &[u8], kind: u
 {
     let n = left[kind];
     left[kind] = n - 1;
-    jobs[(begins[kind] + (upto[kind] - n)) as usize]
+    jobs[begins[kind] as usize + (upto[kind] - n) as usize]
 }
 
 // The order of a share of the queue: from the jobs left (their index beside them), each kind up to a job of its own, for so many places. The first kind

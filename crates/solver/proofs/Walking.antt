@@ -1,0 +1,79 @@
+-- Following the recursion: the kind taken next, what is found from there, and the jobs of a share.
+-- Assumes nothing.
+use Prim.Native.Nat.{ℕ, zero, suc, _-_, _≤_, _<_}
+use mathlib.Core.List.{List, [], _∷_}
+use mathlib.Core.Option.{Option, none, some}
+use mathlib.Core.Path.{_≡_, refl, sym, ap, _∙_}
+use native.Mathlib.Omega.{arith}
+use Rattle.sequencing.specs.Lists.{at, sum}
+use Rattle.sequencing.specs.Problem.{Problem}
+use Rattle.sequencing.specs.States.{complete, K, IsLeft, jobsOf, byHandIn}
+use Rattle.sequencing.specs.Least.{least, argLeast}
+use Rattle.sequencing.specs.Recursion.{costToGo, value, choice, walk}
+use Rattle.sequencing.proofs.Equations.{cost-some-left}
+use Rattle.sequencing.proofs.Fills.{Fills}
+use Rattle.sequencing.proofs.JobsLeft.{complete-left}
+use Rattle.sequencing.proofs.Least.{smallest}
+use Rattle.sequencing.proofs.Recursion.{value-some, choice-some}
+use Rattle.sequencing.proofs.Vectors.{complete-sum, at-in}
+use Rattle.solver.specs.Following.{byHandInUpto}
+
+pub some-cost : (r : Option ℕ) → (r ≡ none → ⊥) → (c : ℕ) × (r ≡ some c)
+some-cost none h = absurd (h refl)
+some-cost (some c) h = (c, refl)
+
+module _ (P : Problem) where
+  -- a kind that can be taken next with k left: a job of it is left, and the state then is feasible
+  pub record Takes (k : List ℕ) (x : ℕ) : Type 0 where
+    pub low : 1 ≤ x
+    pub high : x ≤ P .N
+    pub some-left : 0 < at k x
+    pub found : value P x (complete k x) ≡ none → ⊥
+
+  -- the recursion's next kind, where it finds something
+  pub takes-next : (L : ℕ) (k : List ℕ) (c : ℕ) → least (choice P L k) (P .N) ≡ some c → Takes k (argLeast (choice P L k) (P .N))
+  takes-next L k c e =
+      let m = smallest (choice P L k) (P .N) c e in
+      let (d, h, v, _) = choice-some P L k (argLeast (choice P L k) (P .N)) c (m .reached) in
+      record {
+        low = m .low;
+        high = m .high;
+        some-left = h;
+        found = λ n. let z : _≡_ {A = ℕ} 0 1 = cc in omega arith;
+      }
+
+  -- after a kind that can be taken the recursion finds something
+  pub found-after : (k : List ℕ) (x : ℕ) → Takes k x → 0 < sum (complete k x) → (c : ℕ) × (least (choice P x (complete k x)) (P .N) ≡ some c)
+  found-after k x t h =
+      let (c, e) = some-cost (value P x (complete k x)) (t .found) in
+      (c, sym (cost-some-left P x (complete k x) h) ∙ value-some P x (complete k x) c e .2)
+
+  -- n kinds with k left, the first of them x
+  unfoldable pub walkBy : ℕ → ℕ → List ℕ → List ℕ
+  walkBy zero x k = []
+  walkBy (suc n) x k = x ∷ walk P n x (complete k x)
+
+  pub walk-by : (n L : ℕ) (k : List ℕ) (x : ℕ) → (0 < n → x ≡ argLeast (choice P L k) (P .N)) → walk P n L k ≡ walkBy n x k
+  unfolding walk walkBy
+  walk-by zero L k x h = refl
+  walk-by (suc n) L k x h = rw (h (omega arith))
+
+  module _ (m : List ℕ) where
+    -- the jobs of such a walk: the first, and those of the walk from there
+    pub by-hand-more : (k : List ℕ) (x y : ℕ) → 0 < at k x → (0 < sum (complete k x) → y ≡ argLeast (choice P x (complete k x)) (P .N))
+        → byHandInUpto P m k (walkBy (sum k) x k)
+        ≡ at (jobsOf P x) (at m x - at (complete k x) x) ∷ byHandInUpto P m (complete k x) (walkBy (sum (complete k x)) y (complete k x))
+    unfolding walkBy byHandInUpto
+    by-hand-more k x y h e = rw (← (complete-sum k x h), walk-by (sum (complete k x)) x (complete k x) y e)
+
+    pub by-hand-none : (n x : ℕ) (k : List ℕ) → n ≡ 0 → byHandInUpto P m k (walkBy n x k) ≡ []
+    unfolding walkBy byHandInUpto
+    by-hand-none n x k e = rw e
+
+    -- up to the last job of each kind: 01's own order
+    pub upto-all : ((x : ℕ) → 1 ≤ x → x ≤ P .N → at m x ≡ K P x) → (k xs : List ℕ) → IsLeft P k → Fills P k xs → byHandInUpto P m k xs ≡ byHandIn P k xs
+    unfolding byHandInUpto byHandIn Fills
+    upto-all all k [] s f = refl
+    upto-all all k (x ∷ xs) s f =
+        let b = at-in k x (f .0) in
+        rw (all x (b .0) (omega (arith, s .long)), upto-all all (complete k x) xs (complete-left P k x s (f .0)) (f .2))
