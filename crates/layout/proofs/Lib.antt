@@ -1,2 +1,2 @@
-pub mod Listing
-pub mod Preparing
+pub mod Blocks
+pub mod Prepared

@@ -16,7 +16,7 @@ use Rattle.problem.specs.OfQueue.{problem}
 use Rattle.problem.proofs.Tests.{and-l, and-r, and}
 
 -- the element i steps after f s is f (s + i)
-getD-tabulate : (f : ℕ → ℕ) (s n i j : ℕ) → s + i ≡ j → i < n → getD (tabulate f s n) i 0 ≡ f j
+pub getD-tabulate : (f : ℕ → ℕ) (s n i j : ℕ) → s + i ≡ j → i < n → getD (tabulate f s n) i 0 ≡ f j
 unfolding tabulate
 getD-tabulate f s zero i j e h = absurd (omega arith)
 getD-tabulate f s (suc n) zero j e h = ap f (omega arith)

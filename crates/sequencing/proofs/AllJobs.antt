@@ -12,7 +12,7 @@ use Rattle.sequencing.specs.States.{jobsOf, K, allLeft, IsLeft}
 use Rattle.sequencing.proofs.Counting.{length-filter, from-le, from-pos, length-from, double, sum-map-le, sum-map-ones}
 use Rattle.sequencing.proofs.Vectors.{at-in, sum-mono}
 
-getD-map-from : {B : Type 0} (f : ℕ → B) (i n r : ℕ) (d : B) → r < n → getD (map f (from i n)) r d ≡ f (i + r)
+pub getD-map-from : {B : Type 0} (f : ℕ → B) (i n r : ℕ) (d : B) → r < n → getD (map f (from i n)) r d ≡ f (i + r)
 unfolding from
 getD-map-from f i zero r d h = absurd (omega arith)
 getD-map-from f i (suc n) zero d h = ap f (omega arith)
