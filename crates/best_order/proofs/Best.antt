@@ -1,4 +1,4 @@
--- Demand 3, from what planning answers and leaves.
+-- Demand 3 and the planning contract, from what planning answers and leaves.
 -- Assumes nothing.
 use Prim.Native.Nat.{ℕ, _+_, _≤_}
 use mathlib.Core.List.{List, _++_}
@@ -10,6 +10,7 @@ use lib.ListN.{length, getD, take, drop}
 use lib.Seq.{sets, sets-eq, length-sets, take-append-seam, drop-append-seam}
 use borrow.Author.Tests.{lt-ltb, le-ltb}
 use Rattle.refusal.specs.declared.Verdict.the-variants.{Accepted}
+use Rattle.refusal.specs.declared.Answer.{Answer}
 use Rattle.refusal.specs.Answers.{answerNumber}
 use Rattle.fields.proofs.Codecs.{Bytes}
 use Rattle.queue.specs.declared.Queue.{Queue}
@@ -21,26 +22,25 @@ use Rattle.plan.proofs.Theorems.{message-length}
 use Rattle.sequencing.specs.Problem.{Problem}
 use Rattle.sequencing.specs.States.{IsPair}
 use Rattle.sequencing.specs.Recursion.{value, planCost}
-use Rattle.sequencing.specs.Entries.{entries, number, stored}
+use Rattle.sequencing.specs.Entries.{entries, number, stored, FilledTable}
 use Rattle.sequencing.proofs.Entries.{number-in, entry-is}
 use Rattle.sequencing.proofs.Options.{none-some}
 use Rattle.problem.specs.OfQueue.{problem}
 use Rattle.problem.proofs.Queues.{none-permitted}
-use Rattle.best_order.specs.Endings.{solved, ending, bestPlan, answerOf, filledEntry, Leaves}
+use Rattle.best_order.specs.Endings.{solved, ending, bestPlan, answerOf, bufferOf, tableOf, LeavesTable}
 use Rattle.best_order.specs.BestOrder.{Best, BestOrder}
+use Rattle.best_order.specs.Planning.{endingOn, Planning}
 use Rattle.best_order.proofs.Endings.{message-accepted, in-room}
 use Rattle.best_order.proofs.Plans.{valid-plan, read-again, best-plan}
 
 -- ---- the table
 
-module _ (q : Queue) (table table′ : List ℕ) (filled : (n : ℕ) → getD table′ n 0 ≡ filledEntry q table n) where
-  entry-of : (L : ℕ) (k : List ℕ) → IsPair (problem q) L k → getD table′ (number (problem q) L k) 0 ≡ stored (value (problem q) L k)
-  entry-of L k p =
-      filled (number (problem q) L k)
-      ∙ rw (lt-ltb (number (problem q) L k) (entries (problem q)) (number-in (problem q) L k p)) (ap stored (entry-is (problem q) L k p))
+module _ (P : Problem) (table table′ : List ℕ) (filled : FilledTable P table table′) where
+  entry-of : (L : ℕ) (k : List ℕ) → IsPair P L k → getD table′ (number P L k) 0 ≡ stored (value P L k)
+  entry-of L k p = filled .entries-are (number P L k) ∙ rw (lt-ltb (number P L k) (entries P) (number-in P L k p)) (ap stored (entry-is P L k p))
 
-  past : (n : ℕ) → entries (problem q) ≤ n → getD table′ n 0 ≡ getD table n 0
-  past n h = filled n ∙ rw (le-ltb n (entries (problem q)) h)
+  past : (n : ℕ) → entries P ≤ n → getD table′ n 0 ≡ getD table n 0
+  past n h = filled .entries-are n ∙ rw (le-ltb n (entries P) h)
 
 -- ---- the written plan
 
@@ -59,17 +59,17 @@ module _ (q : Queue) (v : Valid q) (table buffer table′ buffer′ : List ℕ) 
   abbrev P : Problem
   P = problem q
 
-  best : (r : Option ℕ) → planCost P ≡ r → 77 ≤ length buffer → Leaves (solved q r) table buffer table′ buffer′
+  best : (r : Option ℕ) → planCost P ≡ r → 77 ≤ length buffer → LeavesTable (tableOf (solved q r)) table table′ → buffer′ ≡ bufferOf (solved q r) buffer
       → Best P table buffer table′ buffer′ (answerNumber (answerOf (solved q r)))
-  best none e h l = record {
+  best none e h filled same = record {
     none-permitted = ((λ _. none-permitted q v .0 e), (λ _. refl));
     otherwise = λ other. absurd (other refl);
     behind = λ n a. absurd (omega arith);
-    unwritten = λ _. l .buffer-is;
-    entry-of = entry-of q table table′ (l .table-is);
-    past = past q table table′ (l .table-is);
+    unwritten = λ _. same;
+    entry-of = entry-of P table table′ filled;
+    past = past P table table′ filled;
   }
-  best (some c) e h l =
+  best (some c) e h filled holds =
       let s : List ℕ = message (bestPlan q c) in
       let short : length s ≤ length buffer = omega (arith, message-length (bestPlan q c) (valid-plan q v c e)) in
       record {
@@ -77,13 +77,13 @@ module _ (q : Queue) (v : Valid q) (table buffer table′ buffer′ : List ℕ) 
         otherwise = λ _. (
           length s,
           refl,
-          rw (l .buffer-is, length-sets) short,
-          rw (l .buffer-is, written s buffer short, read-again q v c e) (best-plan q v c e),
+          rw (holds, length-sets) short,
+          rw (holds, written s buffer short, read-again q v c e) (best-plan q v c e),
         );
-        behind = λ n a. let e : n ≡ length s = omega arith in rw (e, l .buffer-is) (behind s buffer short);
+        behind = λ n a. let e : n ≡ length s = omega arith in rw (e, holds) (behind s buffer short);
         unwritten = λ a. absurd (omega arith);
-        entry-of = entry-of q table table′ (l .table-is);
-        past = past q table table′ (l .table-is);
+        entry-of = entry-of P table table′ filled;
+        past = past P table table′ filled;
       }
 
 -- an accepted message with room for its table and plan is planned by the recursion
@@ -92,10 +92,21 @@ pub reached : (s : List ℕ) (n room : ℕ) → readQueue s .verdict ≡ Accepte
 reached s n room a h k = message-accepted s n room a ∙ in-room (readQueue s .queue) n room k _ refl h
 
 -- demand 3
-pub best-order : (s table buffer table′ buffer′ : List ℕ) → Bytes s
-    → Leaves (ending (readQueue s) (length table) (length buffer)) table buffer table′ buffer′
-    → BestOrder s table buffer table′ buffer′ (answerNumber (answerOf (ending (readQueue s) (length table) (length buffer))))
-best-order s table buffer table′ buffer′ y l a h k =
+best-order : (s table buffer table′ buffer′ : List ℕ) → Bytes s
+    → LeavesTable (tableOf (endingOn s table buffer)) table table′ → buffer′ ≡ bufferOf (endingOn s table buffer) buffer
+    → BestOrder s table buffer table′ buffer′ (answerNumber (answerOf (endingOn s table buffer)))
+best-order s table buffer table′ buffer′ y filled holds a h k =
     let q : Queue = readQueue s .queue in
     let e = reached s (length table) (length buffer) a h k in
-    rw e (best q (accepted-valid s y a) table buffer table′ buffer′ (planCost (problem q)) refl k (rw e at l))
+    rw e (best q (accepted-valid s y a) table buffer table′ buffer′ (planCost (problem q)) refl k (rw e at filled) (rw e at holds))
+
+-- the planning contract
+pub planning : {s table buffer table′ buffer′ : List ℕ} {answer : Answer} → Bytes s
+    → answer ≡ answerOf (endingOn s table buffer) → LeavesTable (tableOf (endingOn s table buffer)) table table′
+    → buffer′ ≡ bufferOf (endingOn s table buffer) buffer → Planning s table buffer table′ buffer′ answer
+planning {s} {table} {buffer} {table′} {buffer′} y e filled holds = record {
+  answer-is = e;
+  leaves-table = filled;
+  leaves-buffer = holds;
+  best-order = rw e (best-order s table buffer table′ buffer′ y filled holds);
+}

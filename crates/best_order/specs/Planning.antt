@@ -1,4 +1,5 @@
 -- The planning call's contract: its answer, what it leaves in the lent table and buffer, and demand 3.
+use Prim.Native.Nat.{ℕ}
 use mathlib.Core.List.{List}
 use mathlib.Core.Path.{_≡_}
 use lib.ListN.{length}
