@@ -3,42 +3,43 @@
 use Prim.Native.Nat.{ℕ, suc, _+_, _-_, _^_, _<_, _≤_, min}
 use mathlib.Core.Bool.{cond}
 use mathlib.Core.Option.{Option, none, some}
-use mathlib.Core.Path.{_≡_, refl, sym}
+use mathlib.Core.Path.{_≡_, refl, sym, _∙_}
 use native.Mathlib.Numerals.{add-one}
 use native.Mathlib.Omega.{arith}
 use lib.Dec.{ltb}
 use Rattle.sequencing.specs.Least.{least, argLeast}
 use Rattle.sequencing.proofs.Options.{none-some}
 use Rattle.sequencing.specs.Entries.{stored}
+use Rattle.next_states.specs.declared.Least.{Least}
+use Rattle.next_states.specs.NextStates.{IsLeast}
 use Rattle.next_states.proofs.Stored.{Fits, fits-least, stored-lower, stored-taken, stored-none}
 
-pub record Lowest (f : ℕ → Option ℕ) (kinds cost kind x : ℕ) : Type 0 where
-  pub few : x ≤ kinds
-  pub value : cost ≡ stored (least f x)
-  pub reached : (c : ℕ) → least f x ≡ some c → kind ≡ argLeast f x
-  pub no-kind : least f x ≡ none → kind ≡ 0
+-- the least of the first x kinds
+pub record Lowest (f : ℕ → Option ℕ) (best : Least) (x : ℕ) : Type 0 where
+  pub few : x ≤ 5
+  pub cost-is : best .cost ≡ stored (least f x)
+  pub kind-is : (c : ℕ) → least f x ≡ some c → best .kind ≡ argLeast f x
+  pub no-kind : least f x ≡ none → best .kind ≡ 0
 
-module _ {f : ℕ → Option ℕ} {kinds : ℕ} where
-  pub lowest-none : Lowest f kinds (2 ^ 64 - 1) 0 0
+module _ {f : ℕ → Option ℕ} {best : Least} where
+  pub lowest-none : best .cost ≡ 2 ^ 64 - 1 → best .kind ≡ 0 → Lowest f best 0
   unfolding least
-  lowest-none = record { few = omega arith; value = refl; reached = λ c e. absurd (none-some c e); no-kind = λ e. refl }
+  lowest-none e z = record { few = omega arith; cost-is = e; kind-is = λ c s. absurd (none-some c s); no-kind = λ s. z }
 
-  module _ {cost kind x : ℕ} (w : Lowest f kinds cost kind x) where
-    pub lowest-more : ((y : ℕ) → 1 ≤ y → y ≤ kinds → Fits (f y)) → x < kinds
-        → Lowest f kinds (min cost (stored (f (x + 1)))) (cond (ltb (stored (f (x + 1))) cost) (x + 1) kind) (x + 1)
+  module _ {x : ℕ} (w : Lowest f best x) where
+    -- the better of the least so far and kind x + 1, the earlier where they are equal
+    pub lowest-more : {r : Least} (small : (y : ℕ) → 1 ≤ y → y ≤ 5 → Fits (f y)) → x < 5
+        → r .cost ≡ min (best .cost) (stored (f (x + 1))) → r .kind ≡ cond (ltb (stored (f (x + 1))) (best .cost)) (x + 1) (best .kind) → Lowest f r (x + 1)
     unfolding least argLeast
-    lowest-more small h =
+    lowest-more small h cost kind =
         let a = fits-least f x (λ y l u. small y l (omega arith)) in
         let b = small (suc x) (omega arith) (omega arith) in
         record {
           few = omega arith;
-          value = rw (w .value, add-one) (sym (stored-lower (least f x) (f (suc x)) a b));
-          reached = λ c e. rw (w .value, add-one) (stored-taken (least f x) (f (suc x)) kind (argLeast f x) (suc x) a b (w .reached) c (rw add-one at e));
-          no-kind = λ e. rw (w .value, add-one) (stored-none (least f x) (f (suc x)) kind (suc x) (w .no-kind) (rw add-one at e));
+          cost-is = cost ∙ rw (w .cost-is, add-one) (sym (stored-lower (least f x) (f (suc x)) a b));
+          kind-is = λ c e. kind ∙ rw (w .cost-is, add-one) (stored-taken (least f x) (f (suc x)) (best .kind) (argLeast f x) (suc x) a b (w .kind-is) c (rw add-one at e));
+          no-kind = λ e. kind ∙ rw (w .cost-is, add-one) (stored-none (least f x) (f (suc x)) (best .kind) (suc x) (w .no-kind) (rw add-one at e));
         }
 
-    pub lowest-done : kinds ≤ x
-        → (cost ≡ stored (least f kinds)) × (((c : ℕ) → least f kinds ≡ some c → kind ≡ argLeast f kinds) × (least f kinds ≡ none → kind ≡ 0))
-    lowest-done h =
-        let e : x ≡ kinds = omega arith in
-        rw (sym e) (w .value, (w .reached, w .no-kind))
+    pub lowest-done : 5 ≤ x → IsLeast f best
+    lowest-done h = let e : 5 ≡ x = omega (arith, w .few) in record { cost-is = rw e (w .cost-is); kind-is = rw e (w .kind-is); no-kind = rw e (w .no-kind) }

@@ -14,7 +14,7 @@ use Rattle.sequencing.proofs.Counting.{bool-cases}
 use Rattle.sequencing.proofs.Options.{none-some}
 use Rattle.sequencing.proofs.Least.{smallest}
 use Rattle.sequencing.specs.Entries.{stored}
-use Rattle.next_states.specs.Entries.{loaded}
+use Rattle.next_states.specs.NextStates.{loaded}
 
 -- a value that the table can hold
 abbrev pub Fits : Option ℕ → Type 0

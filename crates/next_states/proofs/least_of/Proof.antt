@@ -1,11 +1,11 @@
 -- `next_states::least_of` meets its contract: `Lowest` is the invariant; the kinds left fall.
 -- Assumes nothing.
-use Prim.Native.Nat.{suc, _+_, _-_}
-use mathlib.Core.Path.{_≡_}
+use Prim.Native.Nat.{_+_, _-_}
+use mathlib.Core.Path.{_≡_, refl}
 use native.Mathlib.Numerals.{add-one}
 use native.Mathlib.Omega.{arith}
 use Rattle.sequencing.specs.Entries.{stored}
-use Rattle.next_states.specs.Entries.{candidate}
+use Rattle.next_states.specs.NextStates.{candidate}
 use Rattle.next_states.proofs.Candidates.{candidate-fits, small-next}
 use Rattle.next_states.proofs.Lowest.{Lowest, lowest-none, lowest-more, lowest-done}
 use borrow.Author.Needs.{needs}
@@ -13,25 +13,40 @@ use Rattle.next_states.proofs.least_of.Statement.{statement}
 use Rattle.next_states.proofs.least_of.Tie as tie
 
 abbrev Inv-loop : tie.InvT-loop
-Inv-loop next gaps row goal weight best₀ x₀ best x = Lowest (candidate next gaps row weight) 5 (best .cost) (best .kind) x
+Inv-loop next gaps row goal weight best₀ x₀ best x = Lowest (candidate next gaps row weight) best x
 
 abbrev μ-loop : tie.MeasureT-loop
 μ-loop next gaps row goal weight best₀ x₀ best x = 5 - x
 
+-- the places: the function's entry, the loop's turn, and that with the gap looked up
+abbrev entry : tie.At-loop Inv-loop μ-loop → tie.Start Inv-loop μ-loop
+entry t = t .before .before .before
+
+abbrev turn : tie.After-gap-after Inv-loop μ-loop → tie.In-loop Inv-loop μ-loop
+turn c = c .before
+
+abbrev looked-up : tie.After-next-cost Inv-loop μ-loop → tie.After-gap-after Inv-loop μ-loop
+looked-up c = c .before .before
+
+-- the cost by way of kind x + 1
+cost : (c : tie.After-next-cost Inv-loop μ-loop) → let t = turn (looked-up c) .before in let a = entry t .args in
+    c .next-cost .result ≡ stored (candidate (a .next .now) (a .gaps .now) (a .row) (a .weight) (t .loop .x + 1))
+cost c = rw add-one (rw (looked-up c .gap-after .ensures, add-one) at (c .next-cost .ensures))
+
 loop-holds : tie.Need-loop-holds Inv-loop μ-loop
-loop-holds c = lowest-none
+loop-holds c = lowest-none refl refl
 
 next-cost-requires : tie.Need-next-cost-requires Inv-loop μ-loop
-next-cost-requires c κs = (c .before .before .before .before .before .before .pre .1, small-next (c .before .before .before .before .before .before .pre .0) _ (c .before .before .loop-test .taken))
+next-cost-requires c κs =
+    let t = turn (c .before) in
+    let given = entry (t .before) .pre in
+    (given .1, small-next (given .0) _ (t .loop-test .taken) _ (c .before .gap-after .ensures))
 
 loop-again : tie.Need-loop-again Inv-loop μ-loop
 loop-again c =
-    let x = c .before .before .before .before .before .loop .x in
-    let args = c .before .before .before .before .before .before .before .before .args in
-    let s : suc x - 1 ≡ x = omega arith in
-    let cost : c .before .next-cost .result ≡ stored (candidate (args .next .now) (args .gaps .now) (args .row) (args .weight) (x + 1)) = rw (add-one, s) (c .before .next-cost .ensures) in
-    rw (c .lower .ensures .0, c .lower .ensures .1, cost)
-    (lowest-more (c .before .before .before .before .before .loop .inv) (candidate-fits (c .before .before .before .before .before .before .before .before .pre .0)) (c .before .before .before .before .loop-test .taken))
+    let t = turn (looked-up (c .before)) in
+    lowest-more (t .before .loop .inv) (candidate-fits (entry (t .before) .pre .0)) (t .loop-test .taken)
+    (rw (cost (c .before)) at (c .lower .ensures .0)) (rw (cost (c .before)) at (c .lower .ensures .1))
 
 returns : tie.Need-returns Inv-loop μ-loop
 returns c = lowest-done (c .before .loop .inv) (c .loop-test .left)
@@ -44,9 +59,7 @@ least-of-spec =
     μ-loop
     loop-holds
     (λ c. search needs)
-    (λ c. search needs)
-    (λ c. search needs)
-    (λ c. search needs)
+    (λ c κs. search needs)
     (λ c. search needs)
     (λ c. search needs)
     next-cost-requires

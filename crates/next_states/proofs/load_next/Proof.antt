@@ -1,8 +1,7 @@
 -- `next_states::load_next` meets its contract: `Loading` is the invariant; the kinds left fall.
 -- Assumes nothing.
-use Prim.Native.Nat.{suc, _-_}
-use mathlib.Core.Path.{_≡_, refl}
-use native.Mathlib.Numerals.{add-one}
+use Prim.Native.Nat.{_-_}
+use mathlib.Core.Path.{refl}
 use native.Mathlib.Omega.{arith}
 use Rattle.next_states.proofs.Candidates.{Loading, loading-none, loading-more, loading-done, entry-in}
 use borrow.Author.Needs.{needs}
@@ -10,24 +9,29 @@ use Rattle.next_states.proofs.load_next.Statement.{statement}
 use Rattle.next_states.proofs.load_next.Tie as tie
 
 abbrev Inv-loop : tie.InvT-loop
-Inv-loop table left strides kinds block index next₀ x₀ next x = Loading table left strides kinds block index next x
+Inv-loop table left strides block index next₀ x₀ next x = Loading table left strides block index next x
 
 abbrev μ-loop : tie.MeasureT-loop
-μ-loop table left strides kinds block index next₀ x₀ next x = 5 - x
+μ-loop table left strides block index next₀ x₀ next x = 5 - x
+
+-- the places: the function's entry, and the loop's turn, from where kind x's count and stride are read
+abbrev entry : tie.At-loop Inv-loop μ-loop → tie.Start Inv-loop μ-loop
+entry t = t .before .before .before .before
+
+abbrev turn : tie.After-shared-slice-known5 Inv-loop μ-loop → tie.In-loop Inv-loop μ-loop
+turn c = c .before .before
 
 loop-holds : tie.Need-loop-holds Inv-loop μ-loop
-loop-holds c = loading-none _ _ _ _ _ _ _ refl
+loop-holds c = loading-none refl
 
 next-value-requires : tie.Need-next-value-requires Inv-loop μ-loop
-next-value-requires c κs = entry-in _ _ _ _ _ _ (c .before .before .before .before .before .before .before .pre) _
+next-value-requires c κs = entry-in (entry (turn c .before) .pre) _ _ (omega arith)
 
 loop-again : tie.Need-loop-again Inv-loop μ-loop
-loop-again c =
-    let s : suc (c .before .before .before .before .loop .x) - 1 ≡ c .before .before .before .before .loop .x = omega arith in
-    loading-more _ _ _ _ _ _ _ _ (c .before .before .before .before .loop .inv) (c .before .before .before .loop-test .taken) _ (rw s (rw add-one at (c .next-value .ensures)))
+loop-again c = let t = turn (c .before) in loading-more (t .before .loop .inv) (t .loop-test .taken) (c .next-value .ensures)
 
 returns : tie.Need-returns Inv-loop μ-loop
-returns c = loading-done _ _ _ _ _ _ _ _ (c .before .loop .inv) (c .loop-test .left)
+returns c = loading-done (c .before .loop .inv) (c .loop-test .left)
 
 pub load-next-spec : {M : Type 1} → statement M
 load-next-spec =
