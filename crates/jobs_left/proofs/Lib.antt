@@ -1,3 +1,4 @@
 pub mod Stepping
 pub mod Fronts
 pub mod Sums
+pub mod LeftAt
