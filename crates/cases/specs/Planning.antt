@@ -13,7 +13,7 @@ use Rattle.fields.specs.Lists.{tabulate}
 use Rattle.fields.specs.Messages.{opens}
 use Rattle.queue.specs.Reading.{placed, settings, tables, head, jobs, queue, readQueue}
 use Rattle.plan.specs.Writing.{message}
-use Rattle.sequencing.specs.Lists.{from, sum, weigh, filter, sumBelow}
+use Rattle.sequencing.specs.Lists.{from, sum, weigh, filter}
 use Rattle.sequencing.specs.States.{jobsOf, allLeft, byHandIn}
 use Rattle.sequencing.specs.Least.{least, argLeast}
 use Rattle.sequencing.specs.Recursion.{W, toGo, value, choice, walk, planCost, planKinds, planOrder}
@@ -71,7 +71,7 @@ pub record Planning : Type 0 where
   pub H-plan : planned H 8 9 ≡ (256 * 9, 0x51 ∷ 0x50 ∷ 0x01 ∷ 0x01 ∷ 0x00 ∷ 0x04 ∷ 0x02 ∷ 0x02 ∷ 0x01 ∷ [])
 
 pub planning : Planning
-unfolding readQueue queue head settings tables jobs placed opens groupsAt groups encode tabulate flatMap message ending endingOf bestPlan planCost planKinds planOrder feasibleStates value toGo choice walk byHandIn least argLeast W allLeft jobsOf sum weigh filter from sumBelow size digits entryKind entryLeft allowed times
+unfolding readQueue queue head settings tables jobs placed opens groupsAt groups encode tabulate flatMap message ending endingOf bestPlan planCost planKinds planOrder feasibleStates value toGo choice walk byHandIn least argLeast W allLeft jobsOf sum weigh filter from size digits entryKind entryLeft allowed times
 planning = record {
   A-plan = refl;
   A-eleven = refl;

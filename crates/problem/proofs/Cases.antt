@@ -3,7 +3,7 @@ use mathlib.Core.List.{List, [], _∷_, flatMap, List·Memᴰ, List·Memᴰ·hea
 use mathlib.Core.Logic.{_↔_}
 use mathlib.Core.Path.{refl}
 use Prim.Native.Nat.{ℕ}
-use Rattle.sequencing.specs.Lists.{from, count, sum, weigh, filter, sumBelow}
+use Rattle.sequencing.specs.Lists.{from, count, sum, weigh, filter}
 use Rattle.sequencing.specs.Orders.{cost, finishes, makespan, weightedCompletion}
 use Rattle.sequencing.specs.States.{jobsOf, allLeft, byHandIn}
 use Rattle.sequencing.specs.Least.{least, argLeast}
@@ -27,7 +27,7 @@ last-exchanged f = ((λ x. go (f .0 x)), (λ m. f .1 (go m)))
     go (List·Memᴰ·tail (List·Memᴰ·tail (List·Memᴰ·head e))) = List·Memᴰ·tail (List·Memᴰ·head e)
 
 pub cases : Cases
-unfolding planCost planKinds planOrder feasibleStates value toGo choice walk byHandIn least argLeast W allLeft jobsOf sum weigh filter from count sumBelow size digits entryKind entryLeft cost finishes makespan weightedCompletion tabulate placed allowed permittedOrders flatMap
+unfolding planCost planKinds planOrder feasibleStates value toGo choice walk byHandIn least argLeast W allLeft jobsOf sum weigh filter from count size digits entryKind entryLeft cost finishes makespan weightedCompletion tabulate placed allowed permittedOrders flatMap
 cases = record {
   A-exactly-three = λ o. last-exchanged (permitted-orders (problem A) o);
   A-costs = refl;

@@ -3,9 +3,9 @@ use mathlib.Core.List.{List, map}
 use mathlib.Core.Logic.{_↔_, _≢_}
 use mathlib.Core.Option.{none, some}
 use mathlib.Core.Path.{_≡_, _∙_}
-use Prim.Native.Nat.{ℕ, suc, _+_, _-_, _^_, _≤_, _<_}
+use Prim.Native.Nat.{ℕ, _+_, _-_, _^_, _≤_, _<_}
 use native.Mathlib.Omega.{arith}
-use Rattle.sequencing.specs.Lists.{at, sum, sumBelow}
+use Rattle.sequencing.specs.Lists.{at, from, upto, sum}
 use Rattle.sequencing.specs.Problem.{Problem, kind}
 use Rattle.sequencing.specs.Orders.{IsOrder, Permitted, cost}
 use Rattle.sequencing.specs.States.{complete, K, allLeft, IsLeft, IsPair, IsState}
@@ -126,5 +126,5 @@ module _ (q : Queue) (valid : Valid q) where
   counted-once n c = count-unique P n (feasibleStates P) c (feasible-count P)
 
   -- a loop with k outermost and L within finds the same total
-  pub counted-by-left : sumBelow (λ i. sumBelow (λ l. valued (value P (suc l) (digits (allLeft P) i))) (P .N)) (block P) ≡ feasibleStates P
+  pub counted-by-left : sum (map (λ i. sum (map (λ L. valued (value P L (digits (allLeft P) i))) (upto (P .N)))) (from 0 (block P))) ≡ feasibleStates P
   counted-by-left = count-by-left P

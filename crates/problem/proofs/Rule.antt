@@ -1,9 +1,10 @@
 -- A valid queue is a problem of the theory: its jobs and kinds are the record's, it is within 01's limits, and 01's place rule has the exchange law.
+use mathlib.Core.Bool.{_&&_}
 use mathlib.Core.Logic.{_↔_}
 use mathlib.Core.Path.{_≡_, sym, ap, _∙_}
 use Prim.Native.Nat.{ℕ, zero, suc, _+_, _≤_, _<_}
 use native.Mathlib.Omega.{arith}
-use lib.Dec.{T as Is, leb→le, le→leb}
+use lib.Dec.{T as Is, leb, leb→le, le→leb}
 use lib.ListN.{getD}
 use Rattle.sequencing.specs.Problem.{T, kind as kindIn, Proper, Exchange}
 use Rattle.sequencing.specs.Limits.{Limits}
@@ -11,9 +12,9 @@ use Rattle.queue.specs.declared.Queue.{Queue}
 use Rattle.queue.specs.Record.{firstPlace, lastPlace, kind, Valid}
 use Rattle.fields.specs.Lists.{tabulate}
 use Rattle.fields.proofs.Tables.{length-tabulate}
-use Rattle.problem.specs.PlaceRule.{distance, allowed}
+use Rattle.problem.specs.PlaceRule.{distance, allowed, earliest, latest}
 use Rattle.problem.specs.OfQueue.{problem}
-use Rattle.problem.proofs.Tests.{and-l, and-r, and}
+use Rattle.problem.proofs.Tests.{and-l, and-r, and, same-test}
 
 -- the element i steps after f s is f (s + i)
 pub getD-tabulate : (f : ℕ → ℕ) (s n i j : ℕ) → s + i ≡ j → i < n → getD (tabulate f s n) i 0 ≡ f j
@@ -38,6 +39,19 @@ module _ (q : Queue) where
         record { late = omega arith; early = omega arith; first = search (leb→le, and-l, and-r); last = search (leb→le, and-l, and-r) }),
     (λ r. let near : distance p i ≤ q .«max_shift» = omega arith in search (and, le→leb, near, r .first, r .last)),
   )
+
+  -- and it holds from the earliest to the latest place and nowhere else
+  pub allowed-between : (i p : ℕ) → allowed q i p ≡ leb (earliest q i) p && leb p (latest q i)
+  unfolding earliest latest
+  allowed-between i p = same-test (allowed q i p) (leb (earliest q i) p && leb p (latest q i))
+      (λ t.
+      let r = allowed-is i p .0 t in
+      let low : earliest q i ≤ p = omega arith in
+      let high : p ≤ latest q i = omega arith in search (and, le→leb, low, high))
+      (λ t.
+      let low : earliest q i ≤ p = search (leb→le, and-l) in
+      let high : p ≤ latest q i = search (leb→le, and-r) in
+      allowed-is i p .1 (record { late = omega arith; early = omega arith; first = omega arith; last = omega arith }))
 
   -- T is the record's
   pub jobs-is : T (problem q) ≡ q .jobs
@@ -70,3 +84,18 @@ module _ (q : Queue) where
     -- and on jobs
     pub few-jobs : T (problem q) ≤ 60
     few-jobs = omega (arith, jobs-is, v .jobs)
+
+    -- a job's earliest and latest place are places of 01
+    pub earliest-few : (i : ℕ) → 1 ≤ i → i ≤ q .jobs → earliest q i ≤ 60
+    unfolding earliest
+    earliest-few i l u =
+        let k = v .kinds-of-jobs i l u in
+        let w = v .places (kind q i) (k .0) (k .1) in
+        omega (arith, v .jobs)
+
+    pub latest-few : (i : ℕ) → 1 ≤ i → i ≤ q .jobs → latest q i ≤ 60
+    unfolding latest
+    latest-few i l u =
+        let k = v .kinds-of-jobs i l u in
+        let w = v .places (kind q i) (k .0) (k .1) in
+        omega arith

@@ -1,12 +1,13 @@
 -- The number of entries that hold a value is 01's kept count: their pairs are the list that its definition asks for.
-use mathlib.Core.List.{List, [], _∷_, List·Memᴰ, List·Memᴰ·head, List·Memᴰ·tail, List·Memᴰ·not-nil, List·Memᴰ·cases-cons, Memᴰ·cast}
+use mathlib.Core.List.{List, [], _∷_, map, List·Memᴰ, List·Memᴰ·head, List·Memᴰ·tail, List·Memᴰ·not-nil, List·Memᴰ·cases-cons, Memᴰ·cast}
 use mathlib.Core.Logic.{_⊎_, inl, inr, _≢_}
 use mathlib.Core.Option.{Option, none, some}
 use mathlib.Core.Path.{_≡_, refl, sym, ap, subst, _∙_}
 use Prim.Native.Nat.{ℕ, zero, suc, _+_, _<_}
+use native.Mathlib.Nat.{zero-add}
 use native.Mathlib.Omega.{arith}
 use lib.ListN.{length}
-use Rattle.sequencing.specs.Lists.{at, sumBelow}
+use Rattle.sequencing.specs.Lists.{at, from, sum}
 use Rattle.sequencing.specs.Problem.{Problem}
 use Rattle.sequencing.specs.States.{IsState}
 use Rattle.sequencing.specs.Feasible.{Feasible}
@@ -16,6 +17,7 @@ use Rattle.sequencing.proofs.Counting.{one-cases}
 use Rattle.sequencing.proofs.Options.{none-some}
 use Rattle.sequencing.proofs.FeasibleStates.{state-of, feasible-is}
 use Rattle.sequencing.proofs.Entries.{number-in, kind-number, left-number, pair-in, number-pair, entry-is}
+use Rattle.sequencing.proofs.Sums.{sum-more}
 use Rattle.sequencing.proofs.Distinct.{same-length}
 
 -- y in front where something is found
@@ -54,10 +56,10 @@ module _ (P : Problem) where
   holding zero = []
   holding (suc n) = keep (entry P n) (pairOf n) (holding n)
 
-  holding-length : (n : ℕ) → length (holding n) ≡ sumBelow (λ n. valued (entry P n)) n
-  unfolding holding sumBelow
+  holding-length : (n : ℕ) → length (holding n) ≡ sum (map (λ n. valued (entry P n)) (from 0 n))
+  unfolding holding sum from
   holding-length zero = refl
-  holding-length (suc n) = omega (arith, keep-length (pairOf n) (holding n) (entry P n), holding-length n)
+  holding-length (suc n) = omega (arith, keep-length (pairOf n) (holding n) (entry P n), holding-length n, rw zero-add at (sum-more (λ n. valued (entry P n)) 0 n))
 
   holding-from : (n : ℕ) (p : ℕ × List ℕ) → List·Memᴰ p (holding n) → (i : ℕ) × (i < n) × (p ≡ pairOf i) × (entry P i ≢ none)
   unfolding holding

@@ -1,11 +1,11 @@
 -- The count of feasible states.
-use mathlib.Core.List.{List, [], _∷_, List·Memᴰ}
+use mathlib.Core.List.{List, [], _∷_, map, List·Memᴰ}
 use mathlib.Core.Logic.{_↔_}
 use mathlib.Core.Option.{Option, none, some}
 use mathlib.Core.Path.{_≡_}
 use Prim.Native.Nat.{ℕ}
 use lib.ListN.{length}
-use Rattle.sequencing.specs.Lists.{sumBelow}
+use Rattle.sequencing.specs.Lists.{from, sum}
 use Rattle.sequencing.specs.Problem.{Problem}
 use Rattle.sequencing.specs.States.{IsState}
 use Rattle.sequencing.specs.Feasible.{Feasible}
@@ -30,4 +30,4 @@ valued (some c) = 1
 
 -- the number of entries that hold a value
 unfoldable pub feasibleStates : Problem → ℕ
-feasibleStates P = sumBelow (λ n. valued (entry P n)) (entries P)
+feasibleStates P = sum (map (λ n. valued (entry P n)) (from 0 (entries P)))

@@ -42,8 +42,3 @@ sum (c ∷ cs) = c + sum cs
 unfoldable pub weigh : (ℕ → ℕ) → List ℕ → ℕ
 weigh f [] = 0
 weigh f (c ∷ cs) = c * f 1 + weigh (λ j. f (suc j)) cs
-
--- f 0 + f 1 + .., n terms: what a loop that counts up has added
-unfoldable pub sumBelow : (ℕ → ℕ) → ℕ → ℕ
-sumBelow f zero = 0
-sumBelow f (suc n) = sumBelow f n + f n
