@@ -15,7 +15,6 @@ use Rattle.sequencing.specs.Feasible.{Feasible}
 use Rattle.sequencing.specs.Ties.{Smallest, TieRule, Precedes}
 use Rattle.sequencing.specs.Entries.{digits, stride, block, entries, number, entryKind, entryLeft}
 use Rattle.sequencing.specs.Counts.{CountsFeasible, valued, feasibleStates}
-use Rattle.sequencing.specs.Limits.{valueLimit}
 use Rattle.sequencing.proofs.AllJobs.{sum-all}
 use Rattle.sequencing.proofs.Best.{plan-is, plan-least, no-plan}
 use Rattle.sequencing.proofs.FeasibleStates.{feasible-is}
@@ -23,13 +22,14 @@ use Rattle.sequencing.proofs.Least.{smallest}
 use Rattle.sequencing.proofs.Ties.{tie-rule, plan-first}
 use Rattle.sequencing.proofs.Equations.{value-no-job, value-none-left, value-some-left, plan-none-left, plan-some-left}
 use Rattle.sequencing.proofs.Entries.{number-in, kind-number, left-number, pair-in, number-pair, number-next}
-use Rattle.sequencing.proofs.Bounds.{value-limit, plan-limit, limit-fits}
 use Rattle.sequencing.proofs.FeasibleCount.{feasible-count, count-unique}
 use Rattle.sequencing.proofs.LoopOrder.{count-by-left}
 use Rattle.queue.specs.declared.Queue.{Queue}
 use Rattle.queue.specs.Record.{Valid}
 use Rattle.problem.specs.OfQueue.{problem}
-use Rattle.problem.proofs.Rule.{jobs-is, exchange, proper, limits, few-jobs}
+use Rattle.problem.specs.Bounds.{valueLimit}
+use Rattle.problem.proofs.Rule.{jobs-is, exchange, proper}
+use Rattle.problem.proofs.Bounds.{value-limit, plan-limit, limit-fits}
 
 -- what is at most 1000 × 65535 × 1830 fits six groups of seven bits and is not 2^64 − 1
 fits : (c : ℕ) → c ≤ valueLimit → (c ≤ valueLimit) × (c < 2 ^ 42) × (c < 2 ^ 64 - 1)
@@ -109,11 +109,11 @@ module _ (q : Queue) (valid : Valid q) where
 
   -- 8. how large a value is
   pub value-fits : (L : ℕ) (k : List ℕ) (c : ℕ) → IsPair P L k → value P L k ≡ some c → (c ≤ valueLimit) × (c < 2 ^ 42) × (c < 2 ^ 64 - 1)
-  value-fits L k c p e = fits c (value-limit P (limits q valid) (few-jobs q valid) L k c p e)
+  value-fits L k c p e = fits c (value-limit q valid L k c p e)
 
   -- and the plan's cost
   pub cost-fits : (c : ℕ) → planCost P ≡ some c → (c ≤ valueLimit) × (c < 2 ^ 42) × (c < 2 ^ 64 - 1)
-  cost-fits c e = fits c (plan-limit P (limits q valid) (few-jobs q valid) c e)
+  cost-fits c e = fits c (plan-limit q valid c e)
 
   -- ---- the count
 

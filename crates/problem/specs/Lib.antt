@@ -1,3 +1,4 @@
 pub mod PlaceRule
 pub mod OfQueue
+pub mod Bounds
 pub mod Cases

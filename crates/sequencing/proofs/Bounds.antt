@@ -1,22 +1,23 @@
--- How large a value can be.
+-- How large a value can be, under any bounds on gaps and weights.
+-- Assumes nothing.
 use mathlib.Core.List.{List, [], _∷_}
 use mathlib.Core.Logic.{inl, inr}
 use mathlib.Core.Option.{some}
 use mathlib.Core.Path.{_≡_, refl, sym, _∙_}
-use Prim.Native.Nat.{ℕ, zero, suc, _+_, _-_, _*_, _^_, _≤_, _<_}
-use native.Mathlib.Nat.{le-trans, mul-assoc, add-mul, mul-le-mul, mul-le-mul-left, mul-le-mul-right}
+use Prim.Native.Nat.{ℕ, zero, suc, _+_, _*_, _≤_, _<_}
+use native.Mathlib.Nat.{mul-assoc, add-mul, mul-le-mul, mul-le-mul-left}
 use native.Mathlib.Omega.{arith}
 use lib.Dec.{eqb}
 use lib.ListN.{length}
 use Rattle.sequencing.specs.Lists.{at, sum, weigh}
-use Rattle.sequencing.specs.Problem.{Problem, T}
+use Rattle.sequencing.specs.Problem.{Problem}
 use Rattle.sequencing.specs.States.{complete, allLeft, IsLeft, IsPair}
 use Rattle.sequencing.specs.Least.{argLeast}
 use Rattle.sequencing.specs.Recursion.{W, costToGo, value, choice, planCost}
-use Rattle.sequencing.specs.Limits.{Limits, triangle, valueLimit}
+use Rattle.sequencing.specs.Limits.{Limits, triangle}
 use Rattle.sequencing.proofs.Counting.{bool-cases}
 use Rattle.sequencing.proofs.Vectors.{complete-sum, at-in}
-use Rattle.sequencing.proofs.AllJobs.{left-small, all-left}
+use Rattle.sequencing.proofs.AllJobs.{all-left}
 use Rattle.sequencing.proofs.JobsLeft.{complete-left, next-pair}
 use Rattle.sequencing.proofs.Options.{some-eq}
 use Rattle.sequencing.proofs.Least.{smallest}
@@ -29,7 +30,7 @@ weigh-le f w [] h = omega arith
 weigh-le f w (c ∷ cs) h = rw (add-mul c (sum cs) w)
     (omega (arith, mul-le-mul-left c (h 1 (omega arith) (omega arith)), weigh-le (λ j. f (suc j)) w cs (λ j l u. h (suc j) (omega arith) (omega arith))))
 
-triangle-mono : (m n : ℕ) → m ≤ n → triangle m ≤ triangle n
+pub triangle-mono : (m n : ℕ) → m ≤ n → triangle m ≤ triangle n
 unfolding triangle
 triangle-mono zero n h = omega arith
 triangle-mono (suc m) zero h = absurd (omega arith)
@@ -83,22 +84,3 @@ module _ (P : Problem) (g w : ℕ) (b : Limits P g w) where
   pub plan-le : (c : ℕ) → planCost P ≡ some c → c ≤ triangle (sum (allLeft P)) * (w * g)
   unfolding planCost
   plan-le c e = cost-le (sum (allLeft P)) (P .start) (allLeft P) c refl (b .start) (all-left P) e
-
-within-limit : (P : Problem) → T P ≤ 60 → (k : List ℕ) → IsLeft P k → (c : ℕ) → c ≤ triangle (sum k) * (1000 * 65535) → c ≤ valueLimit
-unfolding triangle
-within-limit P t k s c h = le-trans h (mul-le-mul-right {m = triangle (sum k)} {n = 1830} (1000 * 65535) (triangle-mono (sum k) 60 (omega (arith, left-small P k s))))
-
--- under 01's bounds no value is above 1000 × 65535 × 1830, and nor is the plan's cost
-module _ (P : Problem) (b : Limits P 65535 1000) (t : T P ≤ 60) where
-  pub value-limit : (L : ℕ) (k : List ℕ) (c : ℕ) → IsPair P L k → value P L k ≡ some c → c ≤ valueLimit
-  value-limit L k c p e = within-limit P t k (p .left) c (value-le P 65535 1000 b L k c p e)
-
-  pub choice-limit : (L : ℕ) (k : List ℕ) (x c : ℕ) → L ≤ P .N → IsLeft P k → choice P L k x ≡ some c → c ≤ valueLimit
-  choice-limit L k x c l s e = within-limit P t k s c (choice-le P 65535 1000 b L k x c l s e)
-
-  pub plan-limit : (c : ℕ) → planCost P ≡ some c → c ≤ valueLimit
-  plan-limit c e = within-limit P t (allLeft P) (all-left P) c (plan-le P 65535 1000 b c e)
-
--- so they fit six groups of seven bits, and no value is 2^64 − 1
-pub limit-fits : (valueLimit < 2 ^ 42) × (valueLimit < 2 ^ 64 - 1)
-limit-fits = omega arith

@@ -1,5 +1,5 @@
--- Bounds on gaps and weights, and the number that bounds every value under them.
-use Prim.Native.Nat.{ℕ, zero, suc, _+_, _*_, _≤_}
+-- Bounds on gaps and weights, and the number of the bound that values have under them.
+use Prim.Native.Nat.{ℕ, zero, suc, _+_, _≤_}
 use Rattle.sequencing.specs.Problem.{Problem}
 
 -- no gap above g and no weight above w, for the kinds of 1 to N
@@ -13,7 +13,3 @@ pub record Limits (P : Problem) (g w : ℕ) : Type 0 where
 unfoldable pub triangle : ℕ → ℕ
 triangle zero = 0
 triangle (suc n) = suc n + triangle n
-
--- 1000 × 65535 × (1 + 2 + .. + 60): weights, gaps and jobs at 01's bounds
-abbrev pub valueLimit : ℕ
-valueLimit = 1000 * 65535 * 1830
