@@ -19,8 +19,8 @@ use Rattle.refusal.specs.Reasons.{reasonNumber}
 use Rattle.fields.proofs.Codecs.{Bytes}
 use Rattle.queue.specs.declared.Queue.{Queue}
 use Rattle.queue.specs.Reading.{readQueue}
-use Rattle.queue_laws.proofs.Theorems.{accepted-valid}
-use Rattle.queue_laws.proofs.Theorems.{queue-refusal, queue-refusal-number}
+use Rattle.queue.specs.Refusals.{QueueRefusal}
+use Rattle.queue_laws.proofs.Theorems.{accepted-valid, queue-refusal, queue-refusal-number}
 use Rattle.sequencing.specs.Orders.{IsOrder, Permitted}
 use Rattle.sequencing.specs.Recursion.{planCost}
 use Rattle.sequencing.specs.Entries.{entries}
@@ -81,17 +81,17 @@ module _ (s : List ℕ) (n room : ℕ) where
   told e r h a = ap mark (ap answerOf (sym h) ∙ a)
 
   -- 1 to 14: the message's own refusal, and no other message is refused so
-  pub message-exactly : (r : Reason) → reasonNumber r ≤ 14 → (answer ≡ Refused r) ↔ (readQueue s .verdict ≡ NotAccepted r)
-  message-exactly r small = ((λ a. go a way), (λ h. ap answerOf (message-refused s n room r h)))
+  pub message-exactly : (r : Reason) → QueueRefusal r → (answer ≡ Refused r) ↔ (readQueue s .verdict ≡ NotAccepted r)
+  message-exactly r own = ((λ a. go a way), (λ h. ap answerOf (message-refused s n room r h)))
     where
       go : answer ≡ Refused r → Way → readQueue s .verdict ≡ NotAccepted r
       go a (by-message r′ h e) = h ∙ ap NotAccepted (same (ap answerOf (sym e) ∙ a))
         where
           same : Refused r′ ≡ Refused r → r′ ≡ r
           same x = cc
-      go a (by-buffer h l e) = absurd (omega (arith, told _ r e a))
-      go a (by-table h l m e) = absurd (omega (arith, told _ r e a))
-      go a (by-order h l m c e) = absurd (omega (arith, told _ r e a))
+      go a (by-buffer h l e) = absurd (omega (arith, told _ r e a, queue-refusal-number r own))
+      go a (by-table h l m e) = absurd (omega (arith, told _ r e a, queue-refusal-number r own))
+      go a (by-order h l m c e) = absurd (omega (arith, told _ r e a, queue-refusal-number r own))
       go a (to-plan c e) = absurd (omega (arith, told _ r e a, reason-range r))
 
   -- 15

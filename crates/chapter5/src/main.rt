@@ -22,7 +22,7 @@ fn print_number(value: u64, end: &[u8]) {
 }
 
 // A job, after a space.
-fn print_job(job: u32) {
+fn print_job(job: u8) {
     io::write_all(STDOUT_FILENO, b" ");
     io::print_decimal(STDOUT_FILENO, job as u64);
 }
@@ -72,7 +72,7 @@ fn run(goal: u8, shift: u8) {
     print_number(goal as u64, b"\n");
     match planner::plan(&message, &mut table, &mut buffer) {
         Answer::Refused(why) => print_refusal(why),
-        Answer::Planned(n) => print_plan(&message, plan_lines::written(&buffer, n)),
+        Answer::Planned(n) => print_plan(&message, planner::written_plan(&buffer, n)),
     }
 }
 

@@ -81,6 +81,6 @@ fn main() {
     let n = io::read_full(libc::STDIN_FILENO, &mut input);
     match planner::plan(&input[..n], &mut table, &mut buffer) {
         Answer::Refused(why) => print_refusal(why),
-        Answer::Planned(bytes) => print_plan(&input[..n], plan_lines::written(&buffer, bytes)),
+        Answer::Planned(bytes) => print_plan(&input[..n], planner::written_plan(&buffer, bytes)),
     }
 }

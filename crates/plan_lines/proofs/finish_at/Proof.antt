@@ -34,7 +34,7 @@ loop-again : tie.Need-loop-again Inv-loop μ-loop
 loop-again c =
     let start = c .before .before .before .before .before .before in
     cutting-more (gap (start .args .queue)) (kindIn (problem (start .args .queue))) _ _ _ _ _ _ (c .before .before .before .before .loop .inv) (c .before .before .before .loop-test .taken) (omega (arith, sixty start))
-    _ _ _ (c .before .before .kind-of .ensures) (c .before .gap-after .ensures .0) (c .before .gap-after .ensures .1) (c .plus .ensures)
+    _ _ _ (c .before .before .kind-of .ensures) (c .before .gap-seconds .ensures .0) (c .before .gap-seconds .ensures .1) (c .plus .ensures)
 
 returns-2 : tie.Need-returns-2 Inv-loop μ-loop
 returns-2 c = cutting-done _ _ _ _ _ _ _ _ (c .before .loop .inv) (c .loop-test .left)
@@ -48,10 +48,10 @@ finish-at-spec =
     returns
     loop-holds
     (λ c. search needs)
+    (λ c κs. search needs)
+    (λ c κs. search needs)
+    (λ c κs. search needs)
     (λ c. search needs)
-    (λ c κs. search needs)
-    (λ c κs. search needs)
-    (λ c κs. search needs)
     (λ c. search needs)
     (λ c. search needs)
     loop-again

@@ -22,4 +22,4 @@ returns-3 : tie.Need-returns-3
 returns-3 c = at-within _ _ (c .before .if1 .left)
 
 pub job-at-spec : {M : Type 1} → statement M
-job-at-spec = tie.close (tie.spec returns returns-2 (λ c. search needs) (λ c. search needs) (λ c. search needs) returns-3)
+job-at-spec = tie.close (tie.spec returns returns-2 (λ c. search needs) (λ c. search needs) returns-3)

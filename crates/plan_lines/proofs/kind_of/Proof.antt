@@ -35,5 +35,4 @@ kind-of-spec =
     returns-3
     (λ c. search needs)
     (λ c. search needs)
-    (λ c. search needs)
     returns-4)
