@@ -49,7 +49,7 @@ module _ (q : Queue) (v : Valid q) (c : ℕ) (e : planCost (problem q) ≡ some 
 
   few-states : feasibleStates P < 2 ^ 42
   unfolding feasibleStates
-  few-states = omega (arith, sum-most (λ n. valued (entry P n)) 1 (entries P) (λ n _. found-most (entry P n)), entries-small q v)
+  few-states = omega (arith, sum-most (λ n. valued (entry P n)) 1 0 (entries P) (λ n _ _. found-most (entry P n)), entries-small q v)
 
   abbrev at-place : (place : ℕ) → 1 ≤ place → place ≤ q .jobs → job (bestPlan q c) place ≡ getD o (place - 1) 0
   unfolding bestPlan
