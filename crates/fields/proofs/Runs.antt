@@ -12,31 +12,9 @@ use Rattle.number.specs.Readers.{Found, found, refused, Reader, andThen, times}
 use Rattle.number.proofs.Steps.{went-on, found-value}
 use Rattle.fields.specs.declared.Outcome.the-variants.{Next, Refused as Stopped}
 use Rattle.fields.specs.Fields.{readBefore}
+use Rattle.fields.specs.Orders.{inOrder}
 use Rattle.fields.specs.Answers.{asOutcome}
-
--- a step that goes on does not change how the run ends
-outcome-more : {A B : Type 0} (f : Found A) (g : A → B) → asOutcome (andThen f (λ a j. found (g a) j)) ≡ asOutcome f
-outcome-more (found a n) g = refl
-outcome-more (refused r) g = refl
-
-module _ {A : Type 0} (one : Reader A) (s : List ℕ) (i : ℕ) where
-  pub times-none : (n : ℕ) → n ≡ 0 → times n one s i ≡ found [] i
-  unfolding times
-  times-none n h = rw h
-
-  pub times-more : (n : ℕ) (v : A) (j : ℕ) → 0 < n → one s i ≡ found v j
-      → times n one s i ≡ andThen (times (n - 1) one s j) (λ more k. found (v ∷ more) k)
-  unfolding times
-  times-more zero v j h e = absurd (omega arith)
-  times-more (suc n) v j h e = let p : suc n - 1 ≡ n = omega arith in rw (e, p)
-
-  pub times-stop : (n : ℕ) (r : Reason) → 0 < n → one s i ≡ refused r → times n one s i ≡ refused r
-  unfolding times
-  times-stop zero r h e = absurd (omega arith)
-  times-stop (suc n) r h e = rw e
-
-  pub outcome-step : (n : ℕ) (v : A) (j : ℕ) → 0 < n → one s i ≡ found v j → asOutcome (times n one s i) ≡ asOutcome (times (n - 1) one s j)
-  outcome-step n v j h e = ap asOutcome (times-more n v j h e) ∙ outcome-more (times (n - 1) one s j) (λ more. v ∷ more)
+use Rattle.fields.proofs.Orders.{order-none, order-stop, outcome-step, kept, times-in-order}
 
 module _ (one : Reader ℕ) (s : List ℕ) where
   before-more : (n i v j : ℕ) → 0 < n → one s i ≡ found v j → readBefore n one s i ≡ v ∷ readBefore (n - 1) one s j
@@ -74,14 +52,14 @@ times-length one s (suc n) i vs j e =
 pub record Running (one : Reader ℕ) (s : List ℕ) (count at : ℕ) (out₀ : List ℕ) (from : ℕ) (out : List ℕ) (i k : ℕ) : Type 0 where
   pub few : k ≤ count
   pub long : length out ≡ length out₀
-  pub ends : asOutcome (times count one s at) ≡ asOutcome (times (count - k) one s i)
+  pub ends : asOutcome (times count one s at) ≡ asOutcome (inOrder (λ _. one) kept (count - k) tt s i)
   pub means : sets out₀ from (readBefore count one s at) ≡ sets out (from + k) (readBefore (count - k) one s i)
 
-module _ (one : Reader ℕ) (s : List ℕ) (count at : ℕ) (out₀ : List ℕ) (from : ℕ) where
+module _ {one : Reader ℕ} {s : List ℕ} {count at : ℕ} {out₀ : List ℕ} {from : ℕ} where
   pub run-none : Running one s count at out₀ from out₀ at 0
-  run-none = let e : count - 0 ≡ count = omega arith in record { few = omega arith; long = refl; ends = rw e; means = rw (e, add-zero from) }
+  run-none = let e : count - 0 ≡ count = omega arith in record { few = omega arith; long = refl; ends = rw e (ap asOutcome (times-in-order one count s at)); means = rw (e, add-zero from) }
 
-  module _ (out : List ℕ) (i k : ℕ) (w : Running one s count at out₀ from out i k) where
+  module _ {out : List ℕ} {i k : ℕ} (w : Running one s count at out₀ from out i k) where
     pub run-more : (v next : ℕ) → k < count → one s i ≡ found v next → Running one s count at out₀ from (set out (from + k) v) next (k + 1)
     run-more v next h e =
         let g : count - (k + 1) ≡ count - k - 1 = omega arith in
@@ -89,19 +67,19 @@ module _ (one : Reader ℕ) (s : List ℕ) (count at : ℕ) (out₀ : List ℕ) 
         record {
           few = omega arith;
           long = simp length-set (w .long);
-          ends = rw g (w .ends ∙ outcome-step one s i (count - k) v next (omega arith) e);
+          ends = rw g (w .ends ∙ outcome-step (λ _. one) kept s tt i (count - k) v next (omega arith) e);
           means = rw (g, p) (w .means ∙ ap (sets out (from + k)) (before-more one s (count - k) i v next (omega arith) e));
         }
 
     pub run-stop : (r : Reason) → k < count → one s i ≡ refused r
         → (Stopped r ≡ asOutcome (times count one s at)) × (out ≡ sets out₀ from (readBefore count one s at))
     run-stop r h e = (
-      sym (w .ends ∙ ap asOutcome (times-stop one s i (count - k) r (omega arith) e)),
+      sym (w .ends ∙ ap asOutcome (order-stop (λ _. one) kept s tt i (count - k) r (omega arith) e)),
       sym (w .means ∙ ap (sets out (from + k)) (before-stop one s (count - k) i r (omega arith) e)),
     )
 
     pub run-done : count ≤ k → (Next i ≡ asOutcome (times count one s at)) × (out ≡ sets out₀ from (readBefore count one s at))
     run-done h = (
-      sym (w .ends ∙ ap asOutcome (times-none one s i (count - k) (omega arith))),
+      sym (w .ends ∙ ap asOutcome (order-none (λ _. one) kept s tt i (count - k) (omega arith))),
       sym (w .means ∙ ap (sets out (from + k)) (before-none one s (count - k) i (omega arith))),
     )

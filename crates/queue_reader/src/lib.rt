@@ -366,7 +366,7 @@ fn read_jobs(bytes: &[u8], at: usize, queue: Queue) -> Reading
 pub fn read_queue(bytes: &[u8]) -> Reading
     ensures { λ r. ⌜ r ≡ readQueue (now (bytes .entry)) ⌝ }
 {
-    if !openings::has_opening(bytes, b"QS") {
+    if !fields_reader::has_opening(bytes, b"QS") {
         return refused_reading(Reason::Opening);
     }
     match fields_reader::read_field(bytes, 2, 1, 1, Reason::Edition) {

@@ -250,7 +250,7 @@ fn write_message(buffer: &mut [u8], queue: Queue) -> usize
     ensures { λ r. ⌜ r ≡ length (message queue) ⌝ }
     ensures { λ _. ⌜ now (buffer .exit) ≡ sets (now (buffer .entry)) 0 (message queue) ⌝ }
 {
-    let a = openings::write_opening(buffer, b"QS");
+    let a = fields_writer::write_opening(buffer, b"QS");
     let b = number::write_number(buffer, a, 1);
     let c = write_head(buffer, b, queue);
     write_jobs(buffer, c, queue)

@@ -1,36 +1,49 @@
 -- `fields_reader::read_field` meets its contract: what was read, judged.
 -- Assumes nothing.
-use mathlib.Core.Path.{sym, _∙_}
+use mathlib.Core.Path.{_≡_, sym, _∙_}
+use mathlib.Core.Bool.{true, false}
+use native.Mathlib.Omega.{arith}
+use borrow.Author.Tests.{not-true, not-false}
+use Rattle.number.specs.Readers.{found}
 use Rattle.number.specs.Numbers.{number}
 use Rattle.number.proofs.Steps.{as-value, as-refused}
-use Rattle.fields.proofs.Judged.{low-out, high-out, true-within}
+use Rattle.fields.specs.Fields.{within}
+use Rattle.fields.proofs.Judged.{within-true}
 use borrow.Author.Needs.{needs}
 use Rattle.fields_reader.proofs.read_field.Statement.{statement}
 use Rattle.fields_reader.proofs.read_field.Tie as tie
 
+-- the number read
+abbrev entry : tie.After-is-within → tie.Start
+entry c = c .before .before .before .before .before .before
+
+abbrev read : tie.After-is-within → tie.After-value
+read c = c .before .before
+
+number-found : (c : tie.After-is-within) → number 3 (entry c .args .bytes .now) (entry c .args .at) ≡ found (read c .value .given .0 .0) (read c .value .given .0 .1 .0)
+number-found c = as-value _ _ _ (sym (read c .before .before .read-number .ensures) ∙ read c .value .given .1)
+
+-- how it was judged
+inside : (c : tie.Else1) → let call = c .before in within (entry call .args .low) (entry call .args .high) (read call .value .given .0 .0) ≡ true
+inside c = sym (c .before .is-within .ensures) ∙ not-false _ (c .if1 .left)
+
+outside : (c : tie.Then1) → let call = c .before in within (entry call .args .low) (entry call .args .high) (read call .value .given .0 .0) ≡ false
+outside c = sym (c .before .is-within .ensures) ∙ not-true _ (c .if1 .taken)
+
 returns : tie.Need-returns
-returns c =
-    let v = c .before .before in
-    let args = v .before .before .before .before .args in
-    rw (as-value (number 3 (args .bytes .now) (args .at)) _ _ (sym (v .before .before .read-number .ensures) ∙ v .value .given .1), low-out _ _ _ (c .if1 .taken))
+returns c = rw (number-found (c .before), outside c)
+
+cast-t15 : tie.Need-cast-t15
+cast-t15 c = let call = c .before in omega (arith, within-true (entry call .args .low) (entry call .args .high) (read call .value .given .0 .0) (inside c) .1)
 
 returns-2 : tie.Need-returns-2
-returns-2 c =
-    let v = c .before .before .before in
-    let args = v .before .before .before .before .args in
-    rw (as-value (number 3 (args .bytes .now) (args .at)) _ _ (sym (v .before .before .read-number .ensures) ∙ v .value .given .1), high-out _ _ _ (c .if2 .taken))
+returns-2 c = rw (number-found (c .before), inside c)
 
 returns-3 : tie.Need-returns-3
 returns-3 c =
-    let v = c .before .before .before in
-    let args = v .before .before .before .before .args in
-    rw (as-value (number 3 (args .bytes .now) (args .at)) _ _ (sym (v .before .before .read-number .ensures) ∙ v .value .given .1), true-within _ _ _ (c .before .if1 .left) (c .if2 .left))
-
-returns-4 : tie.Need-returns-4
-returns-4 c =
-    let v = c .before in
-    let args = v .before .before .before .before .args in
-    rw (as-refused (number 3 (args .bytes .now) (args .at)) _ (sym (v .before .before .read-number .ensures) ∙ v .reason .given .1))
+    let known = c .before in
+    let args = known .before .before .before .before .args in
+    rw (as-refused (number 3 (args .bytes .now) (args .at)) _ (sym (known .before .before .read-number .ensures) ∙ known .reason .given .1))
 
 pub read-field-spec : {M : Type 1} → statement M
 read-field-spec =
@@ -38,9 +51,9 @@ read-field-spec =
     (tie.spec
     (λ c κs. search needs)
     (λ c. search needs)
+    (λ c κs. search needs)
     returns
+    cast-t15
+    (λ c. search needs)
     returns-2
-    (λ c. search needs)
-    (λ c. search needs)
-    returns-3
-    returns-4)
+    returns-3)

@@ -1,8 +1,9 @@
 -- `fields_reader::read_run` meets its contract: `Running` is the invariant; the numbers left to read fall.
 -- Assumes nothing.
 use Prim.Native.Nat.{_-_}
-use mathlib.Core.Path.{sym, _∙_}
+use mathlib.Core.Path.{_≡_, sym, _∙_}
 use native.Mathlib.Omega.{arith}
+use Rattle.number.specs.Readers.{found}
 use Rattle.fields.specs.Fields.{field, within}
 use Rattle.fields.proofs.Judged.{as-value, as-refused}
 use Rattle.fields.proofs.Runs.{Running, run-none, run-more, run-stop, run-done}
@@ -17,34 +18,44 @@ abbrev μ-loop : tie.MeasureT-loop
 μ-loop bytes at count low high why out₀ from i₀ k₀ out i k = count - k
 
 loop-holds : tie.Need-loop-holds Inv-loop μ-loop
-loop-holds c = run-none _ _ _ _ _ _
+loop-holds c = run-none
+
+-- the turn in which a number was read, or refused
+abbrev turn : tie.After-value Inv-loop μ-loop → tie.In-loop Inv-loop μ-loop
+turn c = c .before .before .before
+
+abbrev last : tie.After-reason Inv-loop μ-loop → tie.In-loop Inv-loop μ-loop
+last c = c .before .before .before
+
+abbrev entry : tie.After-value Inv-loop μ-loop → tie.Start Inv-loop μ-loop
+entry c = turn c .before .before .before .before
+
+value-found : (c : tie.After-value Inv-loop μ-loop)
+    → field 3 (within (entry c .args .low) (entry c .args .high)) (entry c .args .why) (entry c .args .bytes .now) (turn c .before .loop .i) ≡ found (c .value .given .0 .0) (c .value .given .0 .1 .0)
+value-found c = as-value _ _ _ (sym (c .before .before .read-field .ensures) ∙ c .value .given .1)
 
 slice-write-out : tie.Need-slice-write-out Inv-loop μ-loop
-slice-write-out c = omega (arith, c .before .before .before .before .before .loop .inv .long)
+slice-write-out c = omega (arith, turn (c .before) .before .loop .inv .long)
 
 same-length : tie.Need-same-length Inv-loop μ-loop
-same-length c = c .before .before .before .before .before .loop .inv .long
+same-length c = last (c .before) .before .loop .inv .long
 
 returns : tie.Need-returns Inv-loop μ-loop
 returns c =
     let known = c .before in
-    let in-loop = known .before .before .before in
-    run-stop _ _ _ _ _ _ _ _ _ (in-loop .before .loop .inv) _ (in-loop .loop-test .taken) (as-refused _ _ (sym (known .before .before .read-field .ensures) ∙ known .reason .given .1))
+    run-stop (last known .before .loop .inv) _ (last known .loop-test .taken) (as-refused _ _ (sym (known .before .before .read-field .ensures) ∙ known .reason .given .1))
 
 loop-less : tie.Need-loop-less Inv-loop μ-loop
 loop-less c = omega arith
 
 loop-again : tie.Need-loop-again Inv-loop μ-loop
-loop-again c =
-    let known = c .before in
-    let in-loop = known .before .before .before in
-    run-more _ _ _ _ _ _ _ _ _ (in-loop .before .loop .inv) _ _ (in-loop .loop-test .taken) (as-value _ _ _ (sym (known .before .before .read-field .ensures) ∙ known .value .given .1))
+loop-again c = let known = c .before in run-more (turn known .before .loop .inv) _ _ (turn known .loop-test .taken) (value-found known)
 
 same-length-2 : tie.Need-same-length-2 Inv-loop μ-loop
 same-length-2 c = c .before .loop .inv .long
 
 returns-2 : tie.Need-returns-2 Inv-loop μ-loop
-returns-2 c = run-done _ _ _ _ _ _ _ _ _ (c .before .loop .inv) (c .loop-test .left)
+returns-2 c = run-done (c .before .loop .inv) (c .loop-test .left)
 
 pub read-run-spec : {M : Type 1} → statement M
 read-run-spec =

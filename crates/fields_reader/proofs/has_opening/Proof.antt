@@ -1,9 +1,9 @@
--- `openings::has_opening` meets its contract: each test decides its part.
+-- `fields_reader::has_opening` meets its contract: each test decides its part.
 -- Assumes nothing.
 use Rattle.fields.proofs.Openings.{opens-short, opens-first, opens-second, opens-both}
 use borrow.Author.Needs.{needs}
-use Rattle.openings.proofs.has_opening.Statement.{statement}
-use Rattle.openings.proofs.has_opening.Tie as tie
+use Rattle.fields_reader.proofs.has_opening.Statement.{statement}
+use Rattle.fields_reader.proofs.has_opening.Tie as tie
 
 returns : tie.Need-returns
 returns c = opens-short _ _ _ (c .if1 .taken)

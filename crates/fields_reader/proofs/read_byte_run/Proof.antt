@@ -1,0 +1,86 @@
+-- `fields_reader::read_byte_run` meets its contract: `Running` is the invariant; the numbers left to read fall.
+-- Assumes nothing.
+use Prim.Native.Nat.{_-_}
+use mathlib.Core.Path.{_≡_, sym, _∙_}
+use native.Mathlib.Omega.{arith}
+use Rattle.number.specs.Readers.{found}
+use Rattle.fields.specs.Fields.{field, within}
+use Rattle.fields.proofs.Judged.{as-value, as-refused, field-found, within-true}
+use Rattle.fields.proofs.Runs.{Running, run-none, run-more, run-stop, run-done}
+use borrow.Author.Needs.{needs}
+use Rattle.fields_reader.proofs.read_byte_run.Statement.{statement}
+use Rattle.fields_reader.proofs.read_byte_run.Tie as tie
+
+abbrev Inv-loop : tie.InvT-loop
+Inv-loop bytes at count low high why out₀ from i₀ k₀ out i k = Running (field 3 (within low high) why) bytes count at out₀ from out i k
+
+abbrev μ-loop : tie.MeasureT-loop
+μ-loop bytes at count low high why out₀ from i₀ k₀ out i k = count - k
+
+loop-holds : tie.Need-loop-holds Inv-loop μ-loop
+loop-holds c = run-none
+
+-- the turn in which a number was read, or refused
+abbrev turn : tie.After-value Inv-loop μ-loop → tie.In-loop Inv-loop μ-loop
+turn c = c .before .before .before
+
+abbrev last : tie.After-reason Inv-loop μ-loop → tie.In-loop Inv-loop μ-loop
+last c = c .before .before .before
+
+abbrev entry : tie.After-value Inv-loop μ-loop → tie.Start Inv-loop μ-loop
+entry c = turn c .before .before .before .before
+
+value-found : (c : tie.After-value Inv-loop μ-loop)
+    → field 3 (within (entry c .args .low) (entry c .args .high)) (entry c .args .why) (entry c .args .bytes .now) (turn c .before .loop .i) ≡ found (c .value .given .0 .0) (c .value .given .0 .1 .0)
+value-found c = as-value _ _ _ (sym (c .before .before .read-field .ensures) ∙ c .value .given .1)
+
+cast-out : tie.Need-cast-out Inv-loop μ-loop
+cast-out c =
+    let known = c .before in
+    let args = entry known .args in
+    let ok = field-found 3 (within (args .low) (args .high)) (args .why) _ _ _ _ (value-found known) .1 in
+    omega (arith, within-true (args .low) (args .high) (known .value .given .0 .0) ok .1, entry known .pre .1)
+
+slice-write-out : tie.Need-slice-write-out Inv-loop μ-loop
+slice-write-out c = omega (arith, turn (c .before) .before .loop .inv .long)
+
+same-length : tie.Need-same-length Inv-loop μ-loop
+same-length c = last (c .before) .before .loop .inv .long
+
+returns : tie.Need-returns Inv-loop μ-loop
+returns c =
+    let known = c .before in
+    run-stop (last known .before .loop .inv) _ (last known .loop-test .taken) (as-refused _ _ (sym (known .before .before .read-field .ensures) ∙ known .reason .given .1))
+
+loop-less : tie.Need-loop-less Inv-loop μ-loop
+loop-less c = omega arith
+
+loop-again : tie.Need-loop-again Inv-loop μ-loop
+loop-again c = let known = c .before in run-more (turn known .before .loop .inv) _ _ (turn known .loop-test .taken) (value-found known)
+
+same-length-2 : tie.Need-same-length-2 Inv-loop μ-loop
+same-length-2 c = c .before .loop .inv .long
+
+returns-2 : tie.Need-returns-2 Inv-loop μ-loop
+returns-2 c = run-done (c .before .loop .inv) (c .loop-test .left)
+
+pub read-byte-run-spec : {M : Type 1} → statement M
+read-byte-run-spec =
+    tie.close
+    (tie.spec
+    Inv-loop
+    μ-loop
+    loop-holds
+    (λ c κs. search needs)
+    (λ c. search needs)
+    cast-out
+    (λ c. search needs)
+    slice-write-out
+    (λ c. search needs)
+    same-length
+    returns
+    (λ c. search needs)
+    loop-less
+    loop-again
+    same-length-2
+    returns-2)
