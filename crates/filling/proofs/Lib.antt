@@ -1,4 +1,5 @@
 pub mod Values
-pub mod Staging
-pub mod Filled
-pub mod Carried
+pub mod Entered
+pub mod States
+pub mod Tables
+pub mod UpTo

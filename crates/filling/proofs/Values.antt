@@ -1,165 +1,143 @@
--- What the code computes from arrays and earlier entries is the recursion's value.
+-- What the code computes from the table's earlier entries is the recursion's.
 -- Assumes nothing.
 use Prim.Native.Nat.{ℕ, zero, suc, _+_, _-_, _*_, _≤_, _<_}
 use mathlib.Core.List.{List}
 use mathlib.Core.Logic.{inl, inr}
 use mathlib.Core.Option.{Option, none, some}
 use mathlib.Core.Path.{_≡_, refl, sym, ap, ap₂, _∙_}
-use native.Mathlib.Nat.{eq-zero-or-pos}
+use native.Mathlib.Nat.{eq-zero-or-pos, mul-le-mul}
 use native.Mathlib.Omega.{arith}
-use lib.Dec.{ltb, eqb, eqb→eq}
-use lib.ListN.{getD, take}
-use lib.Seq.{getD-take}
-use borrow.Author.Tests.{ltb-true, le-leb, lt-leb, eq-eqb, ne-eqb}
-use Rattle.number.proofs.Steps.{bool-cases}
+use lib.Dec.{ltb}
+use lib.ListN.{length, getD}
+use borrow.Author.Tests.{ltb-true}
+use Rattle.number.proofs.Steps.{below-or-not}
 use Rattle.queue.specs.declared.Queue.{Queue}
-use Rattle.queue.specs.Record.{kind, Valid}
-use Rattle.sequencing.specs.Lists.{at, sum, upto}
-use Rattle.sequencing.specs.Problem.{T, kind as kindIn}
-use Rattle.sequencing.specs.States.{complete, jobsOf, K, allLeft, place}
-use Rattle.sequencing.specs.Least.{only, lower, least, argLeast}
-use Rattle.sequencing.specs.Recursion.{W, permit, value, choice}
-use Rattle.sequencing.specs.Entries.{index, digits, block, stored}
-use Rattle.sequencing.proofs.AllJobs.{length-all, below-all}
-use Rattle.sequencing.proofs.Counting.{getD-filter}
-use Rattle.sequencing.proofs.Entries.{left-digits, next-earlier}
-use Rattle.sequencing.proofs.Equations.{value-none-left, value-some-left}
+use Rattle.queue.specs.Record.{Valid}
+use Rattle.sequencing.specs.Lists.{at}
+use Rattle.sequencing.specs.States.{complete, allLeft}
+use Rattle.sequencing.specs.Least.{lower, least, argLeast}
+use Rattle.sequencing.specs.Recursion.{W, value, choice}
+use Rattle.sequencing.specs.Entries.{digits, stride, block, entries, stored}
+use Rattle.sequencing.proofs.AllJobs.{length-all}
+use Rattle.sequencing.proofs.Counting.{bool-cases}
+use Rattle.sequencing.proofs.Entries.{left-digits}
 use Rattle.sequencing.proofs.JobsLeft.{next-pair}
-use Rattle.sequencing.proofs.Radix.{digits-index, index-digits, index-complete}
+use Rattle.sequencing.proofs.Radix.{stride-pos}
 use Rattle.sequencing.proofs.Vectors.{at-in}
-use Rattle.problem.specs.PlaceRule.{allowed}
 use Rattle.problem.specs.OfQueue.{problem}
-use Rattle.problem.proofs.Rule.{kind-is}
+use Rattle.problem.proofs.Bounds.{choice-limit, limit-fits}
 use Rattle.problem.proofs.Queues.{value-fits}
-use Rattle.problem.proofs.Sizes.{kind-few}
+use Rattle.jobs_left.specs.Steps.{LeftAt}
+use Rattle.jobs_left.proofs.LeftAt.{left-at, left-in, complete-digits, stride-earlier}
+use Rattle.layout.specs.declared.Layout.{Layout}
 use Rattle.layout.specs.Prepared.{Prepared}
-use Rattle.next_states.specs.Entries.{loaded, nextValues, candidate, filling}
+use Rattle.layout.proofs.Prepared.{strides-long, stride-at}
+use Rattle.next_states.specs.NextStates.{loaded, nextValues, candidate, Loadable, Ready}
 use Rattle.next_states.proofs.Stored.{fits, loaded-stored, least-past, arg-past}
-use Rattle.next_states.proofs.Candidates.{loaded-next}
-use Rattle.permitted_places.specs.Windows.{permittedAt}
-use Rattle.filling.specs.Staged.{Earlier}
+use Rattle.next_states.proofs.Candidates.{loaded-next, length-next}
+use Rattle.filling.specs.Filling.{Earlier}
 
 -- ---- the least of what agrees
 
-pub least-ext : (f g : ℕ → Option ℕ) (n : ℕ) → ((x : ℕ) → 1 ≤ x → x ≤ n → f x ≡ g x) → least f n ≡ least g n
+least-ext : (f g : ℕ → Option ℕ) (n : ℕ) → ((x : ℕ) → 1 ≤ x → x ≤ n → f x ≡ g x) → least f n ≡ least g n
 unfolding least
 least-ext f g zero h = refl
 least-ext f g (suc n) h = ap₂ lower (least-ext f g n (λ x l u. h x l (omega arith))) (h (suc n) (omega arith) (omega arith))
 
-pub arg-ext : (f g : ℕ → Option ℕ) (n : ℕ) → ((x : ℕ) → 1 ≤ x → x ≤ n → f x ≡ g x) → argLeast f n ≡ argLeast g n
+arg-ext : (f g : ℕ → Option ℕ) (n : ℕ) → ((x : ℕ) → 1 ≤ x → x ≤ n → f x ≡ g x) → argLeast f n ≡ argLeast g n
 unfolding argLeast
 arg-ext f g zero h = refl
 arg-ext f g (suc n) h =
     rw (least-ext f g n (λ x l u. h x l (omega arith)), h (suc n) (omega arith) (omega arith), arg-ext f g n (λ x l u. h x l (omega arith)))
 
--- ---- entries
+-- ---- a table, looked at from one k
 
-at-take : (n : ℕ) (xs : List ℕ) (x : ℕ) → 1 ≤ x → x ≤ n → at (take n xs) x ≡ at xs x
-at-take n xs zero l u = absurd (omega arith)
-at-take n xs (suc r) l u = getD-take n xs r 0 (omega arith)
+-- the entries of the indices before i are filled, and `left` holds the k of index i
+pub record Look (q : Queue) (l : Layout) (table left : List ℕ) (i : ℕ) : Type 0 where
+  pub valid : Valid q
+  pub prepared : Prepared q l
+  pub gaps-long : length (q .gaps) ≡ 30
+  pub earlier : Earlier (problem q) table i
+  pub room : entries (problem q) ≤ length table
+  pub left-at : LeftAt (problem q) left i
 
-pub at-minus : (xs : List ℕ) (x : ℕ) → 1 ≤ x → at xs x ≡ getD xs (x - 1) 0
-at-minus xs zero l = absurd (omega arith)
-at-minus xs (suc r) l = ap (λ (m : ℕ). getD xs m 0) (omega arith)
+module _ {q : Queue} {l : Layout} {table left : List ℕ} {i : ℕ} (s : Look q l table left i) where
+  abbrev k : List ℕ
+  k = digits (allLeft (problem q)) i
 
-module _ (q : Queue) (v : Valid q) where
-  -- the kind of the nth job of kind L is L
-  job-kind : (L n : ℕ) → 1 ≤ L → 1 ≤ n → n ≤ K (problem q) L → kind q (at (jobsOf (problem q) L) n) ≡ L
-  unfolding jobsOf
-  job-kind L zero l m u = absurd (omega arith)
-  job-kind L (suc r) l m u =
+  abbrev next : List ℕ
+  next = nextValues table left (l .strides) (l .size .block) i
+
+  pub left-is : (x : ℕ) → 1 ≤ x → at left x ≡ at k x
+  left-is x a = elim (below-or-not (q .kinds) x) [
+    | inl b ↦ (elim (eq-zero-or-pos (at k x)) [ inl e ↦ s .left-at .past x b ∙ sym e | inr h ↦ absurd (omega (arith, at-in k x h, left-digits (problem q) i .long)) ])
+    | inr b ↦ left-at (s .left-at) x a b
+  ]
+
+  -- what the table holds for the next state by way of x, x's stride lower, is its value
+  next-entry : (x : ℕ) → 0 < at left x → loaded (getD table ((x - 1) * l .size .block + i - at (l .strides) x) 0) ≡ value (problem q) x (complete k x)
+  next-entry x h =
       let P = problem q in
-      let i = getD (jobsOf P L) r 0 in
-      let e : L ≡ kindIn P i = eqb→eq L _ (getD-filter (λ i. eqb L (kindIn P i)) (upto (T P)) r u) in
-      let b = at-in (P .jobs) i (omega arith) in
-      sym (kind-is q i (b .0) (b .1)) ∙ sym e
+      let (low, high) = left-in (s .left-at) x h in
+      let lower = stride-earlier (s .left-at) x low high h x (omega arith) in
+      let j = i - stride (allLeft P) x in
+      let position : (x - 1) * l .size .block + i - at (l .strides) x ≡ (x - 1) * block P + j = rw (s .prepared .block-is, stride-at (s .valid) (s .prepared) x low high) (omega (arith, lower)) in
+      let earlier : j < i = omega (arith, lower, stride-pos (allLeft P) x low (omega (arith, length-all P))) in
+      let entry : getD table ((x - 1) * block P + j) 0 ≡ stored (value P x (complete k x)) = s .earlier x j low high earlier ∙ ap (λ (k′ : List ℕ). stored (value P x k′)) (complete-digits (s .left-at) x low high h) in
+      let pair = next-pair P k x (left-digits P i) (omega (arith, left-is x low)) in
+      rw (position, entry) (loaded-stored (value P x (complete k x)) (fits (value P x (complete k x)) (λ c e. value-fits q (s .valid) x (complete k x) c pair e .2)))
 
-  module _ (counts jobs strides : List ℕ) (size : ℕ) (p : Prepared (problem q) counts jobs strides size) (left : List ℕ) (i : ℕ)
-      (here : take (q .kinds) left ≡ digits (allLeft (problem q)) i) (in-block : i < block (problem q)) where
-    abbrev k : List ℕ
-    k = digits (allLeft (problem q)) i
+  -- the next states' entries can be read
+  pub loadable : Loadable table left (l .strides) (l .size .block) i
+  loadable = record {
+    left-long = s .left-at .long;
+    strides-long = strides-long (s .valid) (s .prepared);
+    index-in = omega (arith, s .prepared .block-is, s .left-at .within);
+    inside = λ x _ h.
+        let (low, high) = left-in (s .left-at) x h in
+        rw (s .prepared .block-is) (omega (arith, s .room, mul-le-mul {n₁ = x} {m₁ = block (problem q)} {n₂ = q .kinds} {m₂ = block (problem q)} high (omega arith)));
+    earlier = λ x y a u h.
+        let (low, high) = left-in (s .left-at) x h in
+        omega (arith, stride-at (s .valid) (s .prepared) y a (omega arith), stride-earlier (s .left-at) x low high h y u);
+  }
 
-    pub left-at : (x : ℕ) → 1 ≤ x → x ≤ q .kinds → at left x ≡ at k x
-    left-at x l u = sym (at-take (q .kinds) left x l u) ∙ ap (λ (xs : List ℕ). at xs x) here
+  -- from a row
+  module _ (row : ℕ) where
+    abbrev candidateFrom : ℕ → Option ℕ
+    candidateFrom = candidate next (q .gaps) row (W (problem q) k)
 
-    -- the kinds whose job is permitted are those that the recursion permits
-    permitted-is : (L : ℕ) (r : Option ℕ) → 1 ≤ L → L ≤ q .kinds
-        → only (permittedAt left counts jobs (q .«first_places») (q .«last_places») (place (problem q) k) (q .«max_shift») L) r ≡ permit (problem q) L k r
-    unfolding allowed
-    permitted-is L r l u =
-        let P = problem q in
-        rw (left-at L l u, p .listed .counts-are L l (omega (arith, v .kinds)), at-minus (q .«first_places») L l, at-minus (q .«last_places») L l)
-        (elim (bool-cases (ltb (at k L) (K P L))) [
-          | inl e ↦ (let h : at k L < K P L = ltb-true (at k L) (K P L) e in
-              let n = K P L - at k L in
-              rw (e, p .listed .jobs-are L n l (omega (arith, v .kinds)) (omega arith) (omega (arith, kind-few q v L l u)), job-kind L n l (omega arith) (omega arith)) refl)
-          | inr e ↦ rw e
-        ])
+    -- what a next kind comes to, by the table, is the recursion's choice
+    candidate-is : (x : ℕ) → 1 ≤ x → x ≤ 5 → candidateFrom x ≡ choice (problem q) row k x
+    unfolding choice
+    candidate-is x a b =
+        rw (loaded-next table left (l .strides) (l .size .block) i x a b, left-is x a)
+        (elim (bool-cases (ltb 0 (at k x))) [ inl e ↦ rw (e, next-entry x (omega (arith, left-is x a, ltb-true 0 (at k x) e))) | inr e ↦ rw e ])
 
-    -- the next state by way of x stands x's stride lower
-    pub next-at : (x : ℕ) → 1 ≤ x → x ≤ q .kinds → 0 < at k x → index (allLeft (problem q)) (complete k x) + at strides x ≡ i
-    next-at x l u h =
-        let s = left-digits (problem q) i in
-        omega (arith, p .strides-are x l (omega (arith, v .kinds)), index-complete (allLeft (problem q)) k x (s .long ∙ sym (length-all (problem q))) h, index-digits (allLeft (problem q)) i in-block)
+    -- there are N kinds
+    choice-past : (x : ℕ) → q .kinds < x → choice (problem q) row k x ≡ none
+    unfolding choice
+    choice-past x h = let e : at k x ≡ 0 = sym (left-is x (omega arith)) ∙ s .left-at .past x h in rw e
 
-    next-pos : (x : ℕ) → 1 ≤ x → x ≤ q .kinds → 0 < at k x
-        → (x - 1) * size + i - at strides x ≡ (x - 1) * block (problem q) + index (allLeft (problem q)) (complete k x)
-    next-pos x l u h = rw (p .size-is) (omega (arith, next-at x l u h))
+    five : q .kinds + (5 - q .kinds) ≡ 5
+    five = omega (arith, s .valid .kinds)
 
-    module _ (table : List ℕ) (before : Earlier (problem q) table i) where
-      abbrev next : List ℕ
-      next = nextValues table left strides (q .kinds) size i
+    pub least-is : least candidateFrom 5 ≡ least (choice (problem q) row k) (q .kinds)
+    least-is =
+        least-ext candidateFrom (choice (problem q) row k) 5 candidate-is
+        ∙ ap (least (choice (problem q) row k)) (sym five)
+        ∙ least-past (choice (problem q) row k) (q .kinds) (5 - q .kinds) (λ x h _. choice-past x h)
 
-      -- what the table holds for a next state is its value
-      next-entry : (x : ℕ) → 1 ≤ x → x ≤ q .kinds → 0 < at k x → loaded (getD table ((x - 1) * size + i - at strides x) 0) ≡ value (problem q) x (complete k x)
-      next-entry x l u h =
-          let P = problem q in
-          let s = left-digits P i in
-          let t = next-pair P k x s h in
-          let j = index (allLeft P) (complete k x) in
-          let pos = next-pos x l u h in
-          let e : digits (allLeft P) j ≡ complete k x = digits-index (allLeft P) (complete k x) (t .left .long ∙ sym (length-all P)) (below-all P (complete k x) (t .left)) in
-          let entry : getD table ((x - 1) * block P + j) 0 ≡ stored (value P x (complete k x)) =
-          before x j l u (omega (arith, next-earlier P k x s h, index-digits (allLeft P) i in-block)) ∙ ap (λ (k′ : List ℕ). stored (value P x k′)) e in
-          rw (pos, entry) (loaded-stored (value P x (complete k x)) (fits (value P x (complete k x)) (λ c f. value-fits q v x (complete k x) c t f .2)))
+    pub taken-is : (c : ℕ) → least (choice (problem q) row k) (q .kinds) ≡ some c → argLeast candidateFrom 5 ≡ argLeast (choice (problem q) row k) (q .kinds)
+    taken-is c e =
+        arg-ext candidateFrom (choice (problem q) row k) 5 candidate-is
+        ∙ ap (argLeast (choice (problem q) row k)) (sym five)
+        ∙ arg-past (choice (problem q) row k) (q .kinds) (5 - q .kinds) (λ x h _. choice-past x h) c e
 
-      module _ (L : ℕ) where
-        abbrev pub candidateFrom : ℕ → Option ℕ
-        candidateFrom = candidate next (q .gaps) L (W (problem q) k)
-
-        -- what a next kind comes to, by the table, is the recursion's choice
-        pub candidate-is : (x : ℕ) → 1 ≤ x → x ≤ q .kinds → candidateFrom x ≡ choice (problem q) L k x
-        unfolding choice
-        candidate-is x l u =
-            rw (loaded-next table left strides (q .kinds) size i x l (omega (arith, v .kinds)), le-leb x (q .kinds) u, left-at x l u)
-            (elim (bool-cases (ltb 0 (at k x))) [ inl e ↦ rw (e, next-entry x l u (ltb-true 0 (at k x) e)) | inr e ↦ rw e ])
-
-        -- and there are no more kinds
-        pub candidate-past : (x : ℕ) → q .kinds < x → x ≤ 5 → candidateFrom x ≡ none
-        candidate-past x l u = rw (loaded-next table left strides (q .kinds) size i x (omega arith) u, lt-leb x (q .kinds) l)
-
-        five : q .kinds + (5 - q .kinds) ≡ 5
-        five = omega (arith, v .kinds)
-
-        past : (x : ℕ) → q .kinds < x → x ≤ q .kinds + (5 - q .kinds) → candidateFrom x ≡ none
-        past x l u = candidate-past x l (omega (arith, five))
-
-        pub least-is : least candidateFrom 5 ≡ least (choice (problem q) L k) (q .kinds)
-        least-is = ap (least candidateFrom) (sym five) ∙ least-past candidateFrom (q .kinds) (5 - q .kinds) past ∙ least-ext candidateFrom (choice (problem q) L k) (q .kinds) candidate-is
-
-        pub taken-is : (c : ℕ) → least (choice (problem q) L k) (q .kinds) ≡ some c → argLeast candidateFrom 5 ≡ argLeast (choice (problem q) L k) (q .kinds)
-        taken-is c e =
-            ap (argLeast candidateFrom) (sym five)
-            ∙ arg-past candidateFrom (q .kinds) (5 - q .kinds) past c (least-ext candidateFrom (choice (problem q) L k) (q .kinds) candidate-is ∙ e)
-            ∙ arg-ext candidateFrom (choice (problem q) L k) (q .kinds) candidate-is
-
-      -- what an entry gets is its state's value
-      pub filling-is : (L : ℕ) → 1 ≤ L → L ≤ q .kinds
-          → filling next (q .gaps) (W (problem q) k) (sum k)
-          (permittedAt left counts jobs (q .«first_places») (q .«last_places») (place (problem q) k) (q .«max_shift») L) L
-          ≡ value (problem q) L k
-      filling-is L l u =
-          permitted-is L _ l u ∙ elim (eq-zero-or-pos (sum k)) [
-            | inl e ↦ rw (eq-eqb (sum k) 0 e) (sym (value-none-left (problem q) L k e))
-            | inr h ↦ rw (ne-eqb (sum k) 0 (λ e. omega arith)) (ap (permit (problem q) L k) (least-is L) ∙ sym (value-some-left (problem q) L k h))
-          ]
+    -- and 64 bits hold it
+    pub ready : row ≤ q .kinds → Ready next (q .gaps) row (W (problem q) k)
+    ready u = record {
+      row-in = omega (arith, s .valid .kinds);
+      next-long = length-next table left (l .strides) (l .size .block) i;
+      gaps-long = s .gaps-long;
+      small = λ x c a b e. omega (arith, choice-limit q (s .valid) row k x c u (left-digits (problem q) i) (sym (candidate-is x a b) ∙ e), limit-fits);
+    }
