@@ -54,14 +54,14 @@ module _ (of : List ℕ → ℕ) (most : ℕ → ℕ) (counts : List ℕ) (kinds
 pub record Weighing (weights left : List ℕ) (kinds total j : ℕ) : Type 0 where
   pub front : Front (weigh (λ j. getD weights (j - 1) 0)) (λ j. 60000 * j) left kinds total j
 
-pub weighing-none : (weights left : List ℕ) (kinds : ℕ) → Weighing weights left kinds 0 0
+pub weighing-none : {weights left : List ℕ} {kinds : ℕ} → Weighing weights left kinds 0 0
 unfolding weigh
-weighing-none weights left kinds = record { front = record { few = omega arith; means = refl; small = omega arith } }
+weighing-none = record { front = record { few = omega arith; means = refl; small = omega arith } }
 
-module _ (weights left : List ℕ) (kinds total j : ℕ) (w : Weighing weights left kinds total j) (h : j < kinds)
-    (few : (j : ℕ) → j < kinds → getD left j 0 ≤ 60) (light : (j : ℕ) → j < kinds → getD weights j 0 ≤ 1000) where
+module _ {weights left : List ℕ} {kinds total j : ℕ} (w : Weighing weights left kinds total j) (h : j < kinds)
+    (small : ((j : ℕ) → j < kinds → getD left j 0 ≤ 60) × ((j : ℕ) → j < kinds → getD weights j 0 ≤ 1000)) where
   one-small : getD left j 0 * getD weights j 0 ≤ 60000
-  one-small = mul-le-mul {n₂ = 60} {m₂ = 1000} (few j h) (light j h)
+  one-small = mul-le-mul {n₂ = 60} {m₂ = 1000} (small .0 j h) (small .1 j h)
 
   pub one-fits : getD left j 0 * getD weights j 0 < 2 ^ 64
   one-fits = omega (arith, one-small)

@@ -13,29 +13,30 @@ Inv-loop left weights kinds total₀ j₀ total j = Weighing weights left kinds 
 abbrev μ-loop : tie.MeasureT-loop
 μ-loop left weights kinds total₀ j₀ total j = kinds - j
 
+-- the places: the function's entry, and the loop's turn with its count and weight read
+abbrev entry : tie.In-loop Inv-loop μ-loop → tie.Start Inv-loop μ-loop
+entry t = t .before .before
+
+abbrev turn : tie.After-shared-slice-known2 Inv-loop μ-loop → tie.In-loop Inv-loop μ-loop
+turn c = c .before .before
+
 loop-holds : tie.Need-loop-holds Inv-loop μ-loop
-loop-holds c = weighing-none _ _ _
+loop-holds c = weighing-none
 
 cast-total : tie.Need-cast-total Inv-loop μ-loop
 cast-total c = omega (arith, c .shared-slice-known .given (c .before .before .loop .j))
 
 cast-total-2 : tie.Need-cast-total-2 Inv-loop μ-loop
-cast-total-2 c = omega (arith, c .shared-slice-known2 .given (c .before .before .before .loop .j))
+cast-total-2 c = omega (arith, c .shared-slice-known2 .given (turn c .before .loop .j))
 
 mul-total-3 : tie.Need-mul-total-3 Inv-loop μ-loop
-mul-total-3 c =
-    let bounds = c .before .before .before .before .pre .1 .1 .1 in
-    record { fits = one-fits _ _ _ _ _ (c .before .before .before .loop .inv) (c .before .before .loop-test .taken) (bounds .0) (bounds .1) }
+mul-total-3 c = let t = turn c in record { fits = one-fits (t .before .loop .inv) (t .loop-test .taken) (entry t .pre .1 .1 .1) }
 
 add-total : tie.Need-add-total Inv-loop μ-loop
-add-total c =
-    let bounds = c .before .before .before .before .pre .1 .1 .1 in
-    record { fits = weighing-fits _ _ _ _ _ (c .before .before .before .loop .inv) (c .before .before .loop-test .taken) (bounds .0) (bounds .1) (omega arith) }
+add-total c = let t = turn c in record { fits = weighing-fits (t .before .loop .inv) (t .loop-test .taken) (entry t .pre .1 .1 .1) (omega arith) }
 
 loop-again : tie.Need-loop-again Inv-loop μ-loop
-loop-again c =
-    let bounds = c .before .before .before .before .pre .1 .1 .1 in
-    weighing-more _ _ _ _ _ (c .before .before .before .loop .inv) (c .before .before .loop-test .taken) (bounds .0) (bounds .1) (omega arith)
+loop-again c = let t = turn c in weighing-more (t .before .loop .inv) (t .loop-test .taken) (entry t .pre .1 .1 .1) (omega arith)
 
 returns : tie.Need-returns Inv-loop μ-loop
 returns c = front-done _ _ _ _ _ _ (c .before .loop .inv .front) (c .loop-test .left)
