@@ -1,4 +1,5 @@
 -- 01's small queues, computed from the definitions.
+-- Assumes nothing.
 use mathlib.Core.List.{List, [], _∷_, flatMap, List·Memᴰ, List·Memᴰ·head, List·Memᴰ·tail}
 use mathlib.Core.Logic.{_↔_}
 use mathlib.Core.Path.{refl}

@@ -1,8 +1,10 @@
 -- The permitted orders of a problem, listed: for queues that are written out.
+-- Assumes nothing.
 use mathlib.Core.Bool.{Bool, true, cond, _&&_}
 use mathlib.Core.List.{List, [], _∷_, map, flatMap, List·Memᴰ, List·Memᴰ·head, List·Memᴰ·tail, List·Memᴰ·not-nil, List·Memᴰ·cases-cons, Memᴰ·append-left, Memᴰ·append-right, Memᴰ·map}
 use mathlib.Core.Logic.{inl, inr, _↔_}
 use mathlib.Core.Path.{_≡_, refl}
+use mathlib.Mathlib.Data.Bool.Basic.{dichotomy}
 use Prim.Native.Nat.{ℕ, zero, suc, _+_, _≤_, _<_}
 use native.Mathlib.Omega.{arith}
 use lib.Dec.{T as Is, eqb, eqb→eq, eqb-refl}
@@ -10,7 +12,7 @@ use lib.ListN.{length}
 use Rattle.sequencing.specs.Lists.{from, upto, count}
 use Rattle.sequencing.specs.Problem.{Problem, T}
 use Rattle.sequencing.specs.Orders.{IsOrder, PlacesPermitted, Permitted}
-use Rattle.sequencing.proofs.Counting.{bool-cases, one-cases, one-self, from-in}
+use Rattle.sequencing.proofs.Counting.{one-cases, one-self, from-in}
 use Rattle.sequencing.proofs.Orders.{order-counts}
 use Rattle.problem.proofs.Tests.{and-l, and-r, and}
 
@@ -47,18 +49,18 @@ passing p (o ∷ os) = cond (p o) (o ∷ passing p os) (passing p os)
 
 passing-has : (p : List ℕ → Bool) (o : List ℕ) (os : List (List ℕ)) → List·Memᴰ o os → Is (p o) → List·Memᴰ o (passing p os)
 unfolding passing
-passing-has p o (x ∷ os) (List·Memᴰ·head s) t = elim (bool-cases (p x)) [ inl e ↦ rw e (List·Memᴰ·head s) | inr e ↦ absurd (rw (s, e) at t) ]
-passing-has p o (x ∷ os) (List·Memᴰ·tail m) t = elim (bool-cases (p x)) [
-  | inl e ↦ rw e (List·Memᴰ·tail (passing-has p o os m t))
-  | inr e ↦ rw e (passing-has p o os m t)
+passing-has p o (x ∷ os) (List·Memᴰ·head s) t = elim (dichotomy (p x)) [ inr e ↦ rw e (List·Memᴰ·head s) | inl e ↦ absurd (rw (s, e) at t) ]
+passing-has p o (x ∷ os) (List·Memᴰ·tail m) t = elim (dichotomy (p x)) [
+  | inr e ↦ rw e (List·Memᴰ·tail (passing-has p o os m t))
+  | inl e ↦ rw e (passing-has p o os m t)
 ]
 
 passing-is : (p : List ℕ → Bool) (o : List ℕ) (os : List (List ℕ)) → List·Memᴰ o (passing p os) → Is (p o)
 unfolding passing
 passing-is p o [] m = absurd (List·Memᴰ·not-nil m)
-passing-is p o (x ∷ os) m = elim (bool-cases (p x)) [
-  | inl e ↦ (elim (List·Memᴰ·cases-cons (rw e at m)) [ inl s ↦ rw (s, e) tt | inr t ↦ passing-is p o os t ])
-  | inr e ↦ passing-is p o os (rw e at m)
+passing-is p o (x ∷ os) m = elim (dichotomy (p x)) [
+  | inr e ↦ (elim (List·Memᴰ·cases-cons (rw e at m)) [ inl s ↦ rw (s, e) tt | inr t ↦ passing-is p o os t ])
+  | inl e ↦ passing-is p o os (rw e at m)
 ]
 
 -- ---- a test for the permitted orders

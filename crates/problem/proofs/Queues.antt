@@ -1,4 +1,5 @@
--- What the theory says of 01's queues: of any valid record, and from nothing else.
+-- What the theory says of 01's queues, for any valid record.
+-- Assumes nothing.
 use mathlib.Core.List.{List, map}
 use mathlib.Core.Logic.{_↔_, _≢_}
 use mathlib.Core.Option.{none, some}

@@ -1,4 +1,5 @@
 -- A valid queue is a problem of the theory: its jobs and kinds are the record's, it is within 01's limits, and 01's place rule has the exchange law.
+-- Assumes nothing.
 use mathlib.Core.Bool.{_&&_}
 use mathlib.Core.Logic.{_↔_}
 use mathlib.Core.Path.{_≡_, sym, ap, _∙_}
@@ -24,15 +25,15 @@ getD-tabulate f s (suc n) zero j e h = ap f (omega arith)
 getD-tabulate f s (suc n) (suc i) j e h = getD-tabulate f (suc s) n i j (omega arith) (omega arith)
 
 -- 01's sentence on job i at place p: at most m places late or early, and within the window of its kind
-pub record Allowed (q : Queue) (i p : ℕ) : Type 0 where
-  pub late : p ≤ i + q .«max_shift»
-  pub early : i ≤ p + q .«max_shift»
-  pub first : firstPlace q (kind q i) ≤ p
-  pub last : p ≤ lastPlace q (kind q i)
+record Allowed (q : Queue) (i p : ℕ) : Type 0 where
+  late : p ≤ i + q .«max_shift»
+  early : i ≤ p + q .«max_shift»
+  first : firstPlace q (kind q i) ≤ p
+  last : p ≤ lastPlace q (kind q i)
 
 module _ (q : Queue) where
   -- the test is that sentence
-  pub allowed-is : (i p : ℕ) → Is (allowed q i p) ↔ Allowed q i p
+  allowed-is : (i p : ℕ) → Is (allowed q i p) ↔ Allowed q i p
   unfolding allowed
   allowed-is i p = (
     (λ t. let near : distance p i ≤ q .«max_shift» = search (leb→le, and-l, and-r) in

@@ -1,4 +1,5 @@
 -- Tests that are joined: both hold exactly when each does. And tests that hold together are the same.
+-- Assumes nothing.
 use mathlib.Core.Bool.{Bool, true, false, _&&_}
 use mathlib.Core.Path.{_≡_, refl}
 use lib.Dec.{T as Is}

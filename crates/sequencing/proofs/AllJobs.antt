@@ -1,4 +1,5 @@
 -- All jobs left: the K_j add up to T, and no k of a state has more.
+-- Assumes nothing.
 use mathlib.Core.List.{List, map, map-map}
 use mathlib.Core.Logic.{inl, inr}
 use mathlib.Core.Path.{_≡_, sym, ap, _∙_, fun-ext}

@@ -1,12 +1,14 @@
 -- Lists whose numbers ascend: what is dropped to is the least of what is left.
+-- Assumes nothing.
 use mathlib.Core.Bool.{Bool}
 use mathlib.Core.List.{List, [], _∷_}
 use mathlib.Core.Logic.{inl, inr}
+use mathlib.Mathlib.Data.Bool.Basic.{dichotomy}
 use Prim.Native.Nat.{ℕ, zero, suc, _≤_, _<_}
 use native.Mathlib.Omega.{arith}
 use lib.ListN.{getD, drop}
 use Rattle.sequencing.specs.Lists.{from, count, filter}
-use Rattle.sequencing.proofs.Counting.{bool-cases, one-cases}
+use Rattle.sequencing.proofs.Counting.{one-cases}
 
 pub Asc : ℕ → List ℕ → Type 0
 Asc b [] = Unit {0}
@@ -20,9 +22,9 @@ asc-from b i (suc n) h = (h, asc-from i (suc i) n (omega arith))
 pub asc-filter : (p : ℕ → Bool) (b c : ℕ) (xs : List ℕ) → b ≤ c → Asc c xs → Asc b (filter p xs)
 unfolding Asc filter
 asc-filter p b c [] h a = tt
-asc-filter p b c (x ∷ xs) h a = elim (bool-cases (p x)) [
-  | inl e ↦ rw e (omega arith, asc-filter p x x xs (omega arith) (a .1))
-  | inr e ↦ rw e (asc-filter p b x xs (omega arith) (a .1))
+asc-filter p b c (x ∷ xs) h a = elim (dichotomy (p x)) [
+  | inr e ↦ rw e (omega arith, asc-filter p x x xs (omega arith) (a .1))
+  | inl e ↦ rw e (asc-filter p b x xs (omega arith) (a .1))
 ]
 
 asc-lt : (b z : ℕ) (xs : List ℕ) → Asc b xs → 0 < count z xs → b < z

@@ -1,4 +1,5 @@
 -- The best order: the plan is a permitted order and costs what the recursion says, no permitted order costs less, and there is no plan exactly when no order is permitted.
+-- Assumes nothing.
 use mathlib.Core.List.{List, map}
 use mathlib.Core.Logic.{inl, inr, _↔_}
 use mathlib.Core.Option.{Option, none, some}
@@ -16,7 +17,7 @@ use Rattle.sequencing.proofs.Counting.{from-in, from-le, from-pos}
 use Rattle.sequencing.proofs.Orders.{order-counts}
 use Rattle.sequencing.proofs.AllJobs.{at-all, sum-all, all-left}
 use Rattle.sequencing.proofs.JobsLeft.{left, left-count, jobs-count}
-use Rattle.sequencing.proofs.Fills.{Fills, Filled, filled}
+use Rattle.sequencing.proofs.Fills.{Fills, Assigned, assigned}
 use Rattle.sequencing.proofs.Exchanging.{fills}
 use Rattle.sequencing.proofs.Costs.{bySteps, cost-is}
 use Rattle.sequencing.proofs.Options.{Upto}
@@ -39,20 +40,20 @@ module _ (P : Problem) (proper : Proper P) where
   -- ---- a sequence that fills gives an order
 
   module _ (xs : List ℕ) (f : Fills P (allLeft P) xs) where
-    start-filled : Filled P (allLeft P) xs
-    start-filled = filled P (allLeft P) xs (all-left P) f
+    start-assigned : Assigned P (allLeft P) xs
+    start-assigned = assigned P (allLeft P) xs (all-left P) f
 
     is-order : IsOrder P (byHandIn P (allLeft P) xs)
     is-order = record {
-      whole = omega (arith, simp length-map at (ap length (start-filled .kinds)), start-filled .long, sum-all P proper);
-      once = λ i l u. omega (arith, start-filled .counts i, start-counts i, from-le i 1 (T P), from-pos i 1 (T P) l (omega arith));
+      whole = omega (arith, simp length-map at (ap length (start-assigned .kinds)), start-assigned .long, sum-all P proper);
+      once = λ i l u. omega (arith, start-assigned .counts i, start-counts i, from-le i 1 (T P), from-pos i 1 (T P) l (omega arith));
     }
 
     is-permitted : Permitted P (byHandIn P (allLeft P) xs)
-    is-permitted = record { places = rw place-start at (start-filled .permitted) }
+    is-permitted = record { places = rw place-start at (start-assigned .permitted) }
 
     costs : cost P (byHandIn P (allLeft P) xs) ≡ bySteps P (W P) (P .start) (allLeft P) xs
-    costs = cost-is P (byHandIn P (allLeft P) xs) (allLeft P) (rw (start-filled .kinds) f) ∙ ap (bySteps P (W P) (P .start) (allLeft P)) (start-filled .kinds)
+    costs = cost-is P (byHandIn P (allLeft P) xs) (allLeft P) (rw (start-assigned .kinds) f) ∙ ap (bySteps P (W P) (P .start) (allLeft P)) (start-assigned .kinds)
 
   module _ (c : ℕ) (e : planCost P ≡ some c) where
     plan-fills : Fills P (allLeft P) (planKinds P) × (c ≡ bySteps P (W P) (P .start) (allLeft P) (planKinds P))
@@ -62,7 +63,7 @@ module _ (P : Problem) (proper : Proper P) where
     -- the plan's kinds are those of its order
     pub plan-kinds : map (kind P) (planOrder P) ≡ planKinds P
     unfolding planOrder
-    plan-kinds = start-filled (planKinds P) (plan-fills .0) .kinds
+    plan-kinds = start-assigned (planKinds P) (plan-fills .0) .kinds
 
     -- Demand 3: the plan's order is an order, is permitted, and costs, by its own finishes, what the recursion says
     pub plan-is : IsOrder P (planOrder P) × Permitted P (planOrder P) × (cost P (planOrder P) ≡ c)

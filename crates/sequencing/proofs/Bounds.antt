@@ -4,6 +4,7 @@ use mathlib.Core.List.{List, [], _∷_}
 use mathlib.Core.Logic.{inl, inr}
 use mathlib.Core.Option.{some}
 use mathlib.Core.Path.{_≡_, refl, sym, _∙_}
+use mathlib.Mathlib.Data.Bool.Basic.{dichotomy}
 use Prim.Native.Nat.{ℕ, zero, suc, _+_, _*_, _≤_, _<_}
 use native.Mathlib.Nat.{mul-assoc, add-mul, mul-le-mul, mul-le-mul-left}
 use native.Mathlib.Omega.{arith}
@@ -15,7 +16,6 @@ use Rattle.sequencing.specs.States.{complete, allLeft, IsLeft, IsPair}
 use Rattle.sequencing.specs.Least.{argLeast}
 use Rattle.sequencing.specs.Recursion.{W, costToGo, value, choice, planCost}
 use Rattle.sequencing.specs.Limits.{Limits, triangle}
-use Rattle.sequencing.proofs.Counting.{bool-cases}
 use Rattle.sequencing.proofs.Vectors.{complete-sum, at-in}
 use Rattle.sequencing.proofs.AllJobs.{all-left}
 use Rattle.sequencing.proofs.JobsLeft.{complete-left, next-pair}
@@ -42,11 +42,11 @@ triangle-step n m p e = rw (← e) (add-mul (suc n) (triangle n) p)
 
 module _ (P : Problem) (g w : ℕ) (b : Limits P g w) where
   -- with n jobs left a second costs at most n × w
-  pub W-le : (k : List ℕ) → IsLeft P k → 0 < sum k → W P k ≤ sum k * w
+  W-le : (k : List ℕ) → IsLeft P k → 0 < sum k → W P k ≤ sum k * w
   unfolding W
-  W-le k s h = elim (bool-cases (eqb (P .goal) 1)) [
-    | inl e ↦ rw e (mul-le-mul {n₁ = 1} {m₁ = 1} {n₂ = sum k} {m₂ = w} (omega arith) (b .positive))
-    | inr e ↦ rw e (weigh-le (P .weight) w k (λ j l u. b .weights j l (omega (arith, s .long))))
+  W-le k s h = elim (dichotomy (eqb (P .goal) 1)) [
+    | inr e ↦ rw e (mul-le-mul {n₁ = 1} {m₁ = 1} {n₂ = sum k} {m₂ = w} (omega arith) (b .positive))
+    | inl e ↦ rw e (weigh-le (P .weight) w k (λ j l u. b .weights j l (omega (arith, s .long))))
   ]
 
   step-le : (L : ℕ) (k : List ℕ) (x d : ℕ) → L ≤ P .N → IsLeft P k → 0 < at k x → d ≤ triangle (sum (complete k x)) * (w * g)

@@ -1,4 +1,5 @@
 -- The cost of an order, finish by finish, is the cost by the recursion's weights.
+-- Assumes nothing.
 use mathlib.Core.Bool.{Bool, true, false, cond}
 use mathlib.Core.List.{List, [], _∷_, map}
 use mathlib.Core.Path.{_≡_}

@@ -1,8 +1,10 @@
 -- How often a number stands in a list.
-use mathlib.Core.Bool.{Bool, true, false}
+-- Assumes nothing.
+use mathlib.Core.Bool.{Bool}
 use mathlib.Core.List.{List, [], _∷_, map}
 use mathlib.Core.Logic.{_⊎_, inl, inr, _≢_}
 use mathlib.Core.Path.{_≡_, refl, sym, ap, subst}
+use mathlib.Mathlib.Data.Bool.Basic.{dichotomy}
 use Prim.Native.Nat.{ℕ, zero, suc, _+_, _≤_, _<_}
 use native.Mathlib.Nat.{eq-zero-or-pos}
 use native.Mathlib.Omega.{arith}
@@ -10,14 +12,10 @@ use lib.Dec.{T as Is, eqb, eqb→eq, eqb-refl}
 use lib.ListN.{length, getD, drop}
 use Rattle.sequencing.specs.Lists.{from, sum, one, count, filter}
 
-pub bool-cases : (b : Bool) → (b ≡ true) ⊎ (b ≡ false)
-bool-cases true = inl refl
-bool-cases false = inr refl
-
 pub one-cases : (z x : ℕ) → ((z ≡ x) × (one z x ≡ 1)) ⊎ ((z ≢ x) × (one z x ≡ 0))
-one-cases z x = elim (bool-cases (eqb z x)) [
-  | inl e ↦ inl (eqb→eq z x (rw e tt), rw e refl)
-  | inr e ↦ inr ((λ q. rw e at (subst (λ y. Is (eqb z y)) q (eqb-refl z))), rw e refl)
+one-cases z x = elim (dichotomy (eqb z x)) [
+  | inr e ↦ inl (eqb→eq z x (rw e tt), rw e refl)
+  | inl e ↦ inr ((λ q. rw e at (subst (λ y. Is (eqb z y)) q (eqb-refl z))), rw e refl)
 ]
 
 pub one-self : (z : ℕ) → one z z ≡ 1
@@ -32,26 +30,26 @@ one-sym z x = elim (one-cases z x) [
 pub count-filter : (p : ℕ → Bool) (z : ℕ) (xs : List ℕ) → Is (p z) → count z (filter p xs) ≡ count z xs
 unfolding count filter
 count-filter p z [] h = refl
-count-filter p z (x ∷ xs) h = elim (bool-cases (p x)) [
-  | inl e ↦ rw e (omega (arith, count-filter p z xs h))
-  | inr e ↦ rw e (elim (one-cases z x) [ inl q ↦ absurd (rw e at (subst (λ y. Is (p y)) (q .0) h)) | inr q ↦ omega (arith, count-filter p z xs h) ])
+count-filter p z (x ∷ xs) h = elim (dichotomy (p x)) [
+  | inr e ↦ rw e (omega (arith, count-filter p z xs h))
+  | inl e ↦ rw e (elim (one-cases z x) [ inl q ↦ absurd (rw e at (subst (λ y. Is (p y)) (q .0) h)) | inr q ↦ omega (arith, count-filter p z xs h) ])
 ]
 
 pub length-filter : (f : ℕ → ℕ) (j : ℕ) (xs : List ℕ) → length (filter (λ i. eqb j (f i)) xs) ≡ count j (map f xs)
 unfolding count filter
 length-filter f j [] = refl
-length-filter f j (x ∷ xs) = elim (bool-cases (eqb j (f x))) [
-  | inl e ↦ rw e (omega (arith, length-filter f j xs))
+length-filter f j (x ∷ xs) = elim (dichotomy (eqb j (f x))) [
   | inr e ↦ rw e (omega (arith, length-filter f j xs))
+  | inl e ↦ rw e (omega (arith, length-filter f j xs))
 ]
 
 pub getD-filter : (p : ℕ → Bool) (xs : List ℕ) (r : ℕ) → r < length (filter p xs) → Is (p (getD (filter p xs) r 0))
 unfolding filter
 getD-filter p [] r h = absurd (omega arith)
-getD-filter p (x ∷ xs) zero h = elim (bool-cases (p x)) [ inl e ↦ rw e (rw e tt) | inr e ↦ rw e (getD-filter p xs zero (rw e at h)) ]
-getD-filter p (x ∷ xs) (suc r) h = elim (bool-cases (p x)) [
-  | inl e ↦ rw e (getD-filter p xs r (omega (arith, rw e at h)))
-  | inr e ↦ rw e (getD-filter p xs (suc r) (rw e at h))
+getD-filter p (x ∷ xs) zero h = elim (dichotomy (p x)) [ inr e ↦ rw e (rw e tt) | inl e ↦ rw e (getD-filter p xs zero (rw e at h)) ]
+getD-filter p (x ∷ xs) (suc r) h = elim (dichotomy (p x)) [
+  | inr e ↦ rw e (getD-filter p xs r (omega (arith, rw e at h)))
+  | inl e ↦ rw e (getD-filter p xs (suc r) (rw e at h))
 ]
 
 pub count-drop : (z r : ℕ) (xs : List ℕ) → count z (drop r xs) ≤ count z xs

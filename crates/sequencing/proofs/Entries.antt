@@ -1,8 +1,10 @@
 -- Entry numbers: one to one from the pairs (L; k) onto 0 to N × P − 1, and what the entries hold.
+-- Assumes nothing.
 use mathlib.Core.List.{List}
 use mathlib.Core.Logic.{inl, inr}
 use mathlib.Core.Option.{some}
 use mathlib.Core.Path.{_≡_, refl, sym, ap, ap₂, _∙_, fun-ext}
+use mathlib.Mathlib.Data.Bool.Basic.{dichotomy}
 use Prim.Native.Nat.{ℕ, suc, pred, _+_, _-_, _*_, _/_, _%_, _<_}
 use native.Mathlib.Nat.{suc-mul, mul-le-mul-right, mod-lt, mod-eq-of-lt, div-eq-of-lt, div-add-mod', div-lt-iff-lt-mul, mul-add-div-right, mul-add-mod-self-right}
 use native.Mathlib.Omega.{arith}
@@ -14,7 +16,6 @@ use Rattle.sequencing.specs.States.{complete, allLeft, IsLeft, IsPair}
 use Rattle.sequencing.specs.Least.{least, argLeast}
 use Rattle.sequencing.specs.Recursion.{permit, step, value, choice, planCost}
 use Rattle.sequencing.specs.Entries.{index, digits, stride, block, entries, number, entryKind, entryLeft, entry}
-use Rattle.sequencing.proofs.Counting.{bool-cases}
 use Rattle.sequencing.proofs.Vectors.{at-in}
 use Rattle.sequencing.proofs.AllJobs.{length-all, all-left, below-all}
 use Rattle.sequencing.proofs.JobsLeft.{next-pair}
@@ -84,15 +85,15 @@ module _ (P : Problem) where
   module _ (L : ℕ) (k : List ℕ) (s : IsLeft P k) where
     choice-entry : (x : ℕ) → choice P L k x ≡ step P L k x (entry P (number P x k - stride (allLeft P) x))
     unfolding choice
-    choice-entry x = elim (bool-cases (ltb 0 (at k x))) [
-      | inl q ↦ (let h = ltb→lt 0 (at k x) (rw q tt) in
+    choice-entry x = elim (dichotomy (ltb 0 (at k x))) [
+      | inr q ↦ (let h = ltb→lt 0 (at k x) (rw q tt) in
           let e : number P x k - stride (allLeft P) x ≡ number P x (complete k x) = omega (arith, number-next k x s h) in
           ap (step P L k x) (sym (ap (entry P) e ∙ entry-is x (complete k x) (next-pair P k x s h))))
-      | inr q ↦ rw q refl
+      | inl q ↦ rw q refl
     ]
 
     -- the least over the kinds, read from the entries of the next states
-    pub least-entries : least (choice P L k) (P .N) ≡ least (λ x. step P L k x (entry P (number P x k - stride (allLeft P) x))) (P .N)
+    least-entries : least (choice P L k) (P .N) ≡ least (λ x. step P L k x (entry P (number P x k - stride (allLeft P) x))) (P .N)
     least-entries = ap (λ f. least f (P .N)) (fun-ext choice-entry)
 
     -- and the smallest kind that reaches it

@@ -1,8 +1,10 @@
 -- 01's recursion as equations, without the number of jobs left that the definition counts down.
+-- Assumes nothing.
 use mathlib.Core.List.{List}
 use mathlib.Core.Logic.{inl, inr}
 use mathlib.Core.Option.{none, some}
 use mathlib.Core.Path.{_≡_, refl, ap, _∙_, fun-ext}
+use mathlib.Mathlib.Data.Bool.Basic.{dichotomy}
 use Prim.Native.Nat.{ℕ, suc, pred, _≤_, _<_}
 use native.Mathlib.Omega.{arith}
 use lib.Dec.{ltb, ltb→lt}
@@ -11,7 +13,6 @@ use Rattle.sequencing.specs.Problem.{Problem}
 use Rattle.sequencing.specs.States.{complete, K, allLeft}
 use Rattle.sequencing.specs.Least.{least}
 use Rattle.sequencing.specs.Recursion.{permit, step, toGo, costToGo, value, choice, planCost}
-use Rattle.sequencing.proofs.Counting.{bool-cases}
 use Rattle.sequencing.proofs.Vectors.{complete-sum}
 
 module _ (P : Problem) where
@@ -19,7 +20,7 @@ module _ (P : Problem) where
     -- 01's "also where k_L = K_L": no job of L is completed, so there is no state and no value
     pub value-no-job : K P L ≤ at k L → value P L k ≡ none
     unfolding value
-    value-no-job h = elim (bool-cases (ltb (at k L) (K P L))) [ inl q ↦ absurd (omega (arith, ltb→lt (at k L) (K P L) (rw q tt))) | inr q ↦ rw q refl ]
+    value-no-job h = elim (dichotomy (ltb (at k L) (K P L))) [ inr q ↦ absurd (omega (arith, ltb→lt (at k L) (K P L) (rw q tt))) | inl q ↦ rw q refl ]
 
     -- 01: with nothing left it is 0
     pub cost-none-left : sum k ≡ 0 → costToGo P L k ≡ some 0
@@ -33,10 +34,10 @@ module _ (P : Problem) where
     -- the number of jobs left that the definition counts down is the sum of k
     same-choice : (n x : ℕ) → sum k ≡ suc n → step P L k x (permit P x (complete k x) (toGo P n x (complete k x))) ≡ choice P L k x
     unfolding choice value
-    same-choice n x e = elim (bool-cases (ltb 0 (at k x))) [
-      | inl q ↦ (let m : n ≡ sum (complete k x) = omega (arith, complete-sum k x (ltb→lt 0 (at k x) (rw q tt))) in
+    same-choice n x e = elim (dichotomy (ltb 0 (at k x))) [
+      | inr q ↦ (let m : n ≡ sum (complete k x) = omega (arith, complete-sum k x (ltb→lt 0 (at k x) (rw q tt))) in
           ap (λ m. step P L k x (permit P x (complete k x) (toGo P m x (complete k x)))) m)
-      | inr q ↦ rw q refl
+      | inl q ↦ rw q refl
     ]
 
     some-left : (n : ℕ) → sum k ≡ suc n → costToGo P L k ≡ least (choice P L k) (P .N)

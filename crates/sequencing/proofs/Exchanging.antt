@@ -1,4 +1,5 @@
 -- Every permitted order gives a sequence of kinds that fills: jobs of one kind are exchanged until each kind is by hand-in.
+-- Assumes nothing.
 use mathlib.Core.List.{List, [], _∷_, map}
 use mathlib.Core.Logic.{inl, inr}
 use mathlib.Core.Path.{_≡_, refl, ap}
@@ -18,12 +19,12 @@ use Rattle.sequencing.proofs.Fills.{Fills}
 
 module _ (P : Problem) where
   -- t with the job m taken out and h put in, and m permitted at h's place p
-  pub record Swapped (m h p q : ℕ) (t : List ℕ) : Type 0 where
-    pub list : List ℕ
-    pub first : Is (P .ok m p)
-    pub permitted : PlacesPermitted P q list
-    pub kinds : map (kind P) list ≡ map (kind P) t
-    pub counts : (z : ℕ) → one z m + count z list ≡ one z h + count z t
+  record Swapped (m h p q : ℕ) (t : List ℕ) : Type 0 where
+    list : List ℕ
+    first : Is (P .ok m p)
+    permitted : PlacesPermitted P q list
+    kinds : map (kind P) list ≡ map (kind P) t
+    counts : (z : ℕ) → one z m + count z list ≡ one z h + count z t
 
   -- o holds the jobs left, each once
   abbrev pub Holds : List ℕ → List ℕ → Type 0

@@ -1,4 +1,5 @@
 -- A state has a value exactly when it is feasible.
+-- Assumes nothing.
 use mathlib.Core.List.{List}
 use mathlib.Core.Logic.{_≢_, _↔_}
 use mathlib.Core.Option.{Option, none, some}
@@ -9,7 +10,7 @@ use Rattle.sequencing.specs.Problem.{Problem}
 use Rattle.sequencing.specs.States.{IsPair, IsState}
 use Rattle.sequencing.specs.Recursion.{W, walk, value}
 use Rattle.sequencing.specs.Feasible.{Feasible}
-use Rattle.sequencing.proofs.Fills.{filled, uses, fills-of}
+use Rattle.sequencing.proofs.Fills.{assigned, uses, fills-of}
 use Rattle.sequencing.proofs.Costs.{bySteps}
 use Rattle.sequencing.proofs.Options.{Upto}
 use Rattle.sequencing.proofs.Recursion.{value-some, walk-is, value-upto, cost-upto}
@@ -31,7 +32,7 @@ module _ (P : Problem) (L : ℕ) (k : List ℕ) (s : IsState P L k) where
   feasible-of c e =
       let v = value-some P L k c e in
       let q = walk-is P (sum k) L k c refl (v .2) in
-      record { here = v .1; sequence = walk P (sum k) L k; uses = uses P k _ (q .0); later = filled P k _ (s .pair .left) (q .0) .permitted }
+      record { here = v .1; sequence = walk P (sum k) L k; uses = uses P k _ (q .0); later = assigned P k _ (s .pair .left) (q .0) .permitted }
 
   -- 01's kept: a state has a value exactly when it is feasible by 01's sentence
   pub feasible-is : (value P L k ≢ none) ↔ Feasible P L k

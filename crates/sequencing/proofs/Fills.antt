@@ -1,4 +1,5 @@
 -- Sequences of kinds that fill the places left, and the jobs that they place.
+-- Assumes nothing.
 use mathlib.Core.List.{List, [], _∷_, map}
 use mathlib.Core.Path.{_≡_, refl, sym, ap₂}
 use Prim.Native.Nat.{ℕ, suc, _<_}
@@ -19,22 +20,23 @@ module _ (P : Problem) where
   Fills k [] = sum k ≡ 0
   Fills k (x ∷ xs) = (0 < at k x) × Is (P .ok (job P x (complete k x)) (place P (complete k x))) × Fills (complete k x) xs
 
-  pub record Filled (k xs : List ℕ) : Type 0 where
+  -- the jobs of such a sequence: their kinds are its own, each job left is one of them, and they are permitted
+  pub record Assigned (k xs : List ℕ) : Type 0 where
     pub kinds : map (kind P) (byHandIn P k xs) ≡ xs
     pub counts : (z : ℕ) → count z (byHandIn P k xs) ≡ count z (left P (kind P z) k)
     pub permitted : PlacesPermitted P (suc (place P k)) (byHandIn P k xs)
     pub long : length xs ≡ sum k
 
-  pub filled : (k xs : List ℕ) → IsLeft P k → Fills k xs → Filled k xs
+  pub assigned : (k xs : List ℕ) → IsLeft P k → Fills k xs → Assigned k xs
   unfolding Fills byHandIn count PlacesPermitted
-  filled k [] s f = record {
+  assigned k [] s f = record {
     kinds = refl;
     counts = λ z. sym (left-none P k (kind P z) z (omega (arith, at-sum k (kind P z))));
     permitted = tt;
     long = sym f;
   }
-  filled k (x ∷ xs) s f =
-      let r = filled (complete k x) xs (complete-left P k x s (f .0)) (f .2) in
+  assigned k (x ∷ xs) s f =
+      let r = assigned (complete k x) xs (complete-left P k x s (f .0)) (f .2) in
       record {
         kinds = ap₂ _∷_ (kind-next P k x s (f .0)) (r .kinds);
         counts = λ z. omega (arith, r .counts z, left-step P k x s (f .0) z);

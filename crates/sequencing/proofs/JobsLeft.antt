@@ -1,4 +1,5 @@
 -- The jobs left in a state, and what completing one does to them.
+-- Assumes nothing.
 use mathlib.Core.List.{List, _∷_}
 use mathlib.Core.Logic.{inl, inr}
 use mathlib.Core.Path.{_≡_, refl, sym, ap, _∙_}

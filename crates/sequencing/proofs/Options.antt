@@ -1,4 +1,5 @@
 -- A cost or none: what a cost that is found says, and what is found at most.
+-- Assumes nothing.
 use mathlib.Core.Bool.{Bool, true, false}
 use mathlib.Core.Option.{Option, none, some}
 use mathlib.Core.Path.{_≡_, refl, sym}

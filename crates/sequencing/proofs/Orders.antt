@@ -1,4 +1,5 @@
 -- An order holds the jobs 1 to T, each once, and nothing else.
+-- Assumes nothing.
 use mathlib.Core.List.{List, _∷_}
 use mathlib.Core.Logic.{inl, inr}
 use mathlib.Core.Path.{_≡_}

@@ -1,4 +1,5 @@
 -- An index and its digits undo one another, and one job less is its stride less.
+-- Assumes nothing.
 use mathlib.Core.List.{List, [], _∷_}
 use mathlib.Core.Path.{_≡_, refl, ap, ap₂, _∙_}
 use Prim.Native.Nat.{ℕ, zero, suc, pred, _+_, _*_, _/_, _%_, _≤_, _<_}

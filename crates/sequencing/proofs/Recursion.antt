@@ -1,4 +1,5 @@
 -- The recursion finds the least over all sequences that fill, and its walk reaches it.
+-- Assumes nothing.
 use mathlib.Core.List.{List, [], _∷_}
 use mathlib.Core.Option.{some}
 use mathlib.Core.Path.{_≡_, sym, ap, _∙_}

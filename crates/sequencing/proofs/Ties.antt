@@ -1,4 +1,5 @@
 -- The tie rule holds along the whole plan, and makes it the first by kinds among the orders of least cost.
+-- Assumes nothing.
 use mathlib.Core.List.{List, [], _∷_, map}
 use mathlib.Core.Logic.{inl, inr}
 use mathlib.Core.Option.{Option, none, some}

@@ -1,4 +1,5 @@
 -- The numbers of jobs left, and one of them less one.
+-- Assumes nothing.
 use mathlib.Core.List.{List, [], _∷_}
 use mathlib.Core.Logic.{inl, inr}
 use mathlib.Core.Path.{_≡_, refl, ap}
