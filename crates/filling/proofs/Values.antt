@@ -10,7 +10,7 @@ use native.Mathlib.Omega.{arith}
 use lib.Dec.{ltb}
 use lib.ListN.{length, getD}
 use borrow.Author.Tests.{ltb-true}
-use Rattle.number.proofs.Steps.{below-or-not}
+use Rattle.number.proofs.Steps.{bool-cases, below-or-not}
 use Rattle.queue.specs.declared.Queue.{Queue}
 use Rattle.queue.specs.Record.{Valid}
 use Rattle.sequencing.specs.Lists.{at}
@@ -19,7 +19,6 @@ use Rattle.sequencing.specs.Least.{lower, least, argLeast}
 use Rattle.sequencing.specs.Recursion.{W, value, choice}
 use Rattle.sequencing.specs.Entries.{digits, stride, block, entries, stored}
 use Rattle.sequencing.proofs.AllJobs.{length-all}
-use Rattle.sequencing.proofs.Counting.{bool-cases}
 use Rattle.sequencing.proofs.Entries.{left-digits}
 use Rattle.sequencing.proofs.JobsLeft.{next-pair}
 use Rattle.sequencing.proofs.Radix.{stride-pos}

@@ -13,7 +13,7 @@ use lib.Seq.{take-add, take-suc-set, drop-set-lt}
 use Rattle.fields.specs.Fields.{part}
 use Rattle.fields.proofs.Parts.{part-more}
 use Rattle.sequencing.specs.Entries.{digits}
-use Rattle.sequencing.proofs.Counting.{bool-cases}
+use Rattle.number.proofs.Steps.{bool-cases}
 use Rattle.jobs_left.specs.Steps.{next}
 
 -- ---- digits

@@ -10,7 +10,7 @@ use borrow.Author.Tests.{ne-eqb, leb-true, le-leb, lt-leb}
 use lib.Dec.{leb, ltb, eqb}
 use lib.ListN.{length, getD, take, replicate, length-map, length-replicate, List·getD-eq-default}
 use lib.Seq.{sets, length-sets}
-use Rattle.number.proofs.Steps.{below-or-not}
+use Rattle.number.proofs.Steps.{bool-cases, below-or-not}
 use Rattle.fields.specs.Lists.{tabulate, filled}
 use Rattle.fields.proofs.Tables.{length-tabulate, part-sets}
 use Rattle.fields.proofs.Judged.{and-true}
@@ -20,7 +20,7 @@ use Rattle.sequencing.specs.Lists.{at, from, upto, sum, filter}
 use Rattle.sequencing.specs.Problem.{Problem, T, kind}
 use Rattle.sequencing.specs.States.{jobsOf, K, allLeft}
 use Rattle.sequencing.specs.Entries.{stride}
-use Rattle.sequencing.proofs.Counting.{bool-cases, length-from}
+use Rattle.sequencing.proofs.Counting.{length-from}
 use Rattle.sequencing.proofs.Vectors.{at-sum}
 use Rattle.sequencing.proofs.AllJobs.{getD-map-from, at-all, length-all, sum-all}
 use Rattle.problem.specs.PlaceRule.{distance, allowed, earliest, latest}

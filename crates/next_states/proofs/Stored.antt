@@ -10,7 +10,7 @@ use native.Mathlib.Omega.{arith}
 use lib.Dec.{leb, ltb, eqb}
 use borrow.Author.Tests.{lt-ltb, le-ltb, ne-eqb, eqb-true, leb-true, leb-false}
 use Rattle.sequencing.specs.Least.{only, lower, reaches, least, argLeast}
-use Rattle.sequencing.proofs.Counting.{bool-cases}
+use Rattle.number.proofs.Steps.{bool-cases}
 use Rattle.sequencing.proofs.Options.{none-some}
 use Rattle.sequencing.proofs.Least.{smallest}
 use Rattle.sequencing.specs.Entries.{stored}
