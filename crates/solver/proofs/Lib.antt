@@ -1,2 +1,4 @@
+pub mod Looking
 pub mod Walking
 pub mod Start
+pub mod Following

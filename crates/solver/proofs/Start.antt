@@ -1,11 +1,13 @@
 -- The start: all jobs are left, at the last index, and what follows from there is the plan.
 -- Assumes nothing.
-use Prim.Native.Nat.{ℕ, suc, _-_, _≤_, _<_}
+use Prim.Native.Nat.{ℕ, zero, suc, _-_, _≤_, _<_}
 use mathlib.Core.List.{List, [], _∷_}
 use mathlib.Core.Option.{none}
 use mathlib.Core.Path.{_≡_, refl, sym, ap, _∙_}
 use native.Mathlib.Nat.{mul-suc}
 use native.Mathlib.Omega.{arith}
+use lib.ListN.{getD}
+use Rattle.fields.proofs.Arrays.{filled-past}
 use Rattle.queue.specs.declared.Queue.{Queue}
 use Rattle.queue.specs.Record.{Valid}
 use Rattle.sequencing.specs.Lists.{at, sum}
@@ -13,7 +15,7 @@ use Rattle.sequencing.specs.States.{complete, allLeft}
 use Rattle.sequencing.specs.Least.{argLeast}
 use Rattle.sequencing.specs.Recursion.{value, choice, walk, planCost, planKinds, planOrder}
 use Rattle.sequencing.specs.Entries.{size, index, digits, block}
-use Rattle.sequencing.proofs.AllJobs.{at-all, all-left, sum-all}
+use Rattle.sequencing.proofs.AllJobs.{length-all, all-left, sum-all}
 use Rattle.sequencing.proofs.Radix.{size-pos, digits-index}
 use Rattle.sequencing.proofs.Recursion.{walk-is}
 use Rattle.problem.specs.OfQueue.{problem}
@@ -22,9 +24,9 @@ use Rattle.problem.proofs.Queues.{plan-some-jobs}
 use Rattle.jobs_left.specs.Steps.{LeftAt}
 use Rattle.layout.specs.declared.Layout.{Layout}
 use Rattle.layout.specs.Prepared.{Prepared}
+use Rattle.layout.proofs.Prepared.{counts-at, counts-take, counts-long}
 use Rattle.solver.specs.Following.{byHandInUpto}
 use Rattle.solver.proofs.Walking.{some-cost, Takes, takes-next, upto-all}
-use Rattle.layout.proofs.Prepared.{counts-at, counts-take, counts-long, counts-past}
 
 index-last : (cs : List ℕ) → suc (index cs cs) ≡ size cs
 unfolding index size
@@ -44,11 +46,15 @@ module _ {q : Queue} {l : Layout} (v : Valid q) (p : Prepared q l) where
       let e : l .size .block - 1 ≡ index a a = omega (arith, p .block-is, index-last a) in
       ap (digits a) e ∙ digits-index a a refl (λ j. omega arith)
 
+  counts-past : (j : ℕ) → q .kinds < j → at (l .counts) j ≡ 0
+  counts-past zero h = absurd (omega arith)
+  counts-past (suc i) h = ap (λ cs. getD cs i 0) (p .counts-are) ∙ filled-past 5 (allLeft (problem q)) i (omega (arith, length-all (problem q)))
+
   pub start-left : LeftAt (problem q) (l .counts) (l .size .block - 1)
   start-left = record {
     long = counts-long v p;
     here = counts-take v p ∙ sym last-is;
-    past = counts-past v p;
+    past = counts-past;
     within = omega (arith, p .block-is, size-pos (allLeft (problem q)));
   }
 
@@ -62,7 +68,7 @@ module _ {q : Queue} {l : Layout} (v : Valid q) (p : Prepared q l) where
     start-takes x h e =
         let (c, f) = some-cost (planCost (problem q)) some-plan in
         let t = rw (← e) at (takes-next (problem q) (q .start) (allLeft (problem q)) c (sym (plan-some-jobs q v h) ∙ f)) in
-        rw (last-is) (t .low, (t .high, (omega (arith, counts-at v p x (t .low) (t .high), at-all (problem q) x (t .low) (t .high), t .some-left), t .found)))
+        rw (last-is) (t .low, (t .high, (omega (arith, counts-at v p x (t .low), all-left (problem q) .within x, t .some-left), t .found)))
 
     -- the jobs of the walk from the start, all of each kind, are the plan's order
     pub order-is : byHandInUpto (problem q) (l .counts) (allLeft (problem q)) (walk (problem q) (sum (allLeft (problem q))) (q .start) (allLeft (problem q))) ≡ planOrder (problem q)
@@ -70,4 +76,4 @@ module _ {q : Queue} {l : Layout} (v : Valid q) (p : Prepared q l) where
     order-is =
         let P = problem q in
         let (c, f) = some-cost (planCost P) some-plan in
-        upto-all P (l .counts) (counts-at v p) (allLeft P) (walk P (sum (allLeft P)) (q .start) (allLeft P)) (all-left P) (walk-is P (sum (allLeft P)) (q .start) (allLeft P) c refl f .0)
+        upto-all P (l .counts) (λ x a _. counts-at v p x a) (allLeft P) (walk P (sum (allLeft P)) (q .start) (allLeft P)) (all-left P) (walk-is P (sum (allLeft P)) (q .start) (allLeft P) c refl f .0)

@@ -1,0 +1,174 @@
+-- Following a filled table: what is left to follow, place by place.
+-- Assumes nothing.
+use Prim.Native.Nat.{ℕ, zero, suc, _+_, _-_, _≤_, _<_}
+use mathlib.Core.List.{List}
+use mathlib.Core.Option.{none, some}
+use mathlib.Core.Path.{_≡_, refl, sym, ap, _∙_}
+use native.Mathlib.Numerals.{add-one}
+use native.Mathlib.Omega.{arith}
+use lib.ListN.{getD, set, replicate}
+use lib.Seq.{sets}
+use Rattle.fields.specs.Lists.{filled}
+use Rattle.queue.specs.declared.Queue.{Queue}
+use Rattle.queue.specs.Record.{weight, Valid}
+use Rattle.sequencing.specs.Lists.{at, sum, weigh}
+use Rattle.sequencing.specs.Problem.{Problem}
+use Rattle.sequencing.specs.States.{complete, K, allLeft, jobsOf}
+use Rattle.sequencing.specs.Least.{least, argLeast}
+use Rattle.sequencing.specs.Recursion.{value, choice, walk}
+use Rattle.sequencing.specs.Entries.{stride, digits}
+use Rattle.sequencing.proofs.Counting.{one-self}
+use Rattle.sequencing.proofs.Vectors.{complete-sum, complete-weigh, at-complete}
+use Rattle.problem.specs.OfQueue.{problem}
+use Rattle.jobs_left.specs.Steps.{LeftAt}
+use Rattle.jobs_left.proofs.LeftAt.{left-at, complete-digits, stride-earlier, left-complete}
+use Rattle.layout.specs.declared.Layout.{Layout}
+use Rattle.layout.specs.Prepared.{Prepared}
+use Rattle.layout.proofs.Prepared.{counts-at, stride-at, jobs-at, job-in}
+use Rattle.solver.specs.Following.{byHandInUpto}
+use Rattle.solver.proofs.Walking.{Takes, takes-next, found-after, walkBy, walk-by, by-hand-more, by-hand-none}
+
+at-minus : (xs : List ℕ) (x : ℕ) → 1 ≤ x → at xs x ≡ getD xs (x - 1) 0
+at-minus xs zero h = absurd (omega arith)
+at-minus xs (suc m) h = ap (λ i. getD xs i 0) (omega arith)
+
+-- the jobs of n places with k left, the first of them of kind x
+abbrev pub jobsBy : Problem → List ℕ → ℕ → ℕ → List ℕ → List ℕ
+jobsBy P upto n x k = byHandInUpto P upto k (walkBy P n x k)
+
+-- what stands in the order, with the jobs still to be followed behind it, is the whole share's; the kind to take next is known
+pub record Following (q : Queue) (upto : List ℕ) (index first places : ℕ) (order left : List ℕ) (total kind i place : ℕ) : Type 0 where
+  pub left-is : LeftAt (problem q) left i
+  pub weighs : total ≡ weigh (weight q) (digits (allLeft (problem q)) i)
+  pub within : (j : ℕ) → 1 ≤ j → j ≤ q .kinds → at left j ≤ at upto j
+  pub gone : sum (digits (allLeft (problem q)) i) + place ≡ places
+  pub takes : 0 < sum (digits (allLeft (problem q)) i) → Takes (problem q) (digits (allLeft (problem q)) i) kind
+  pub rest : sets order place (jobsBy (problem q) upto (sum (digits (allLeft (problem q)) i)) kind (digits (allLeft (problem q)) i))
+      ≡ filled 60 (jobsBy (problem q) upto places first (digits (allLeft (problem q)) index))
+
+module _ {q : Queue} {upto : List ℕ} {index first places : ℕ} where
+  pub follow-none : {left : List ℕ} {total : ℕ} → LeftAt (problem q) left index → total ≡ weigh (weight q) (digits (allLeft (problem q)) index)
+      → ((j : ℕ) → 1 ≤ j → j ≤ q .kinds → at left j ≤ at upto j) → places ≡ sum (digits (allLeft (problem q)) index)
+      → (0 < places → (1 ≤ first) × ((first ≤ q .kinds) × ((0 < at left first) × (value (problem q) first (complete (digits (allLeft (problem q)) index) first) ≡ none → ⊥))))
+      → Following q upto index first places (replicate 60 0) left total first index 0
+  follow-none w weighs within all takes = record {
+    left-is = w;
+    weighs = weighs;
+    within = within;
+    gone = omega (arith, all);
+    takes = λ h. let t = takes (omega (arith, all)) in record { low = t .0; high = t .1 .0; some-left = omega (arith, left-at w first (t .0) (t .1 .0), t .1 .1 .0); found = t .1 .1 .1 };
+    rest = rw (← all);
+  }
+
+  module _ {order left : List ℕ} {total kind i place : ℕ} (f : Following q upto index first places order left total kind i place) where
+    -- the order followed, whatever row the first kind was looked up from
+    pub follow-done : places ≤ place → (row : ℕ) → (0 < places → first ≡ argLeast (choice (problem q) row (digits (allLeft (problem q)) index)) (q .kinds))
+        → order ≡ filled 60 (byHandInUpto (problem q) upto (digits (allLeft (problem q)) index) (walk (problem q) places row (digits (allLeft (problem q)) index)))
+    follow-done h row e =
+        rw (walk-by (problem q) places row (digits (allLeft (problem q)) index) first e)
+        (rw (by-hand-none (problem q) upto (sum (digits (allLeft (problem q)) i)) kind (digits (allLeft (problem q)) i) (omega (arith, f .gone))) at (f .rest))
+
+-- a turn of the loop
+pub record Turn (q : Queue) (l : Layout) (upto : List ℕ) (index first places : ℕ) (order left : List ℕ) (total kind i place : ℕ) : Type 0 where
+  pub valid : Valid q
+  pub prepared : Prepared q l
+  pub few : (j : ℕ) → 1 ≤ j → j ≤ q .kinds → at upto j ≤ at (l .counts) j
+  pub so-far : Following q upto index first places order left total kind i place
+  pub more : place < places
+
+module _ {q : Queue} {l : Layout} {upto : List ℕ} {index first places : ℕ} {order left : List ℕ} {total kind i place : ℕ} (t : Turn q l upto index first places order left total kind i place) where
+  abbrev k : List ℕ
+  k = digits (allLeft (problem q)) i
+
+  pub takes-now : Takes (problem q) k kind
+  takes-now = t .so-far .takes (omega (arith, t .so-far .gone, t .more))
+
+  low : 1 ≤ kind
+  low = takes-now .low
+
+  high : kind ≤ q .kinds
+  high = takes-now .high
+
+  here : getD left (kind - 1) 0 ≡ at k kind
+  here = sym (at-minus left kind low) ∙ left-at (t .so-far .left-is) kind low high
+
+  some-left : 0 < at left kind
+  some-left = omega (arith, left-at (t .so-far .left-is) kind low high, takes-now .some-left)
+
+  pub job-left : 1 ≤ getD left (kind - 1) 0
+  job-left = omega (arith, here, takes-now .some-left)
+
+  pub left-within : getD left (kind - 1) 0 ≤ getD upto (kind - 1) 0
+  left-within = omega (arith, at-minus left kind low, at-minus upto kind low, t .so-far .within kind low high)
+
+  -- the jobs of the kind before this one
+  taken : ℕ
+  taken = getD upto (kind - 1) 0 - getD left (kind - 1) 0
+
+  taken-few : taken < K (problem q) kind
+  unfolding taken
+  taken-few = omega (arith, job-left, left-within, at-minus upto kind low, t .few kind low high, counts-at (t .valid) (t .prepared) kind low)
+
+  pub job-there : getD (l .begins) (kind - 1) 0 + (getD upto (kind - 1) 0 - getD left (kind - 1) 0) < 60
+  unfolding taken
+  job-there = rw (← (at-minus (l .begins) kind low)) (job-in (t .valid) (t .prepared) kind taken low high taken-few)
+
+  stride-is : getD (l .strides) (kind - 1) 0 ≡ stride (allLeft (problem q)) kind
+  stride-is = sym (at-minus (l .strides) kind low) ∙ stride-at (t .valid) (t .prepared) kind low high
+
+  pub stride-within : getD (l .strides) (kind - 1) 0 ≤ i
+  stride-within = omega (arith, stride-is, stride-earlier (t .so-far .left-is) kind low high some-left kind (omega arith))
+
+  lighter : getD (q .weights) (kind - 1) 0 + weigh (weight q) (complete k kind) ≡ total
+  lighter = complete-weigh (weight q) k kind (takes-now .some-left) ∙ sym (t .so-far .weighs)
+
+  pub weight-within : getD (q .weights) (kind - 1) 0 ≤ total
+  weight-within = omega (arith, lighter)
+
+  -- with the job taken
+  module _ {left′ : List ℕ} (one-fewer : left′ ≡ set left (kind - 1) (getD left (kind - 1) 0 - 1)) where
+    then-is : digits (allLeft (problem q)) (i - getD (l .strides) (kind - 1) 0) ≡ complete k kind
+    then-is = rw stride-is (complete-digits (t .so-far .left-is) kind low high some-left)
+
+    pub left-then : LeftAt (problem q) left′ (i - getD (l .strides) (kind - 1) 0)
+    left-then = rw (one-fewer, stride-is) (left-complete (t .so-far .left-is) kind low high some-left)
+
+    pub weighs-then : total - getD (q .weights) (kind - 1) 0 ≡ weigh (weight q) (digits (allLeft (problem q)) (i - getD (l .strides) (kind - 1) 0))
+    weighs-then = rw then-is (omega (arith, lighter))
+
+    within-then : (j : ℕ) → 1 ≤ j → j ≤ q .kinds → at left′ j ≤ at upto j
+    within-then j a b = omega (
+      arith,
+      left-at left-then j a b,
+      ap (λ k′. at k′ j) then-is,
+      at-complete k kind j (takes-now .some-left),
+      left-at (t .so-far .left-is) j a b,
+      t .so-far .within j a b,
+    )
+
+    -- and the next kind found
+    module _ {job y : ℕ} (job-is : job ≡ getD (l .jobs) (getD (l .begins) (kind - 1) 0 + (getD upto (kind - 1) 0 - getD left (kind - 1) 0)) 0)
+        (y-is : (c : ℕ) → least (choice (problem q) kind (digits (allLeft (problem q)) (i - getD (l .strides) (kind - 1) 0))) (q .kinds) ≡ some c
+        → y ≡ argLeast (choice (problem q) kind (digits (allLeft (problem q)) (i - getD (l .strides) (kind - 1) 0))) (q .kinds)) where
+      next-kind : 0 < sum (complete k kind) → y ≡ argLeast (choice (problem q) kind (complete k kind)) (q .kinds)
+      next-kind s = let (c, e) = found-after (problem q) k kind takes-now s in (rw then-is at y-is) c e
+
+      takes-next-kind : 0 < sum (complete k kind) → Takes (problem q) (complete k kind) y
+      takes-next-kind s = let (c, e) = found-after (problem q) k kind takes-now s in rw (next-kind s) (takes-next (problem q) kind (complete k kind) c e)
+
+      job-taken : job ≡ at (jobsOf (problem q) kind) (at upto kind - at (complete k kind) kind)
+      unfolding taken
+      job-taken =
+          let fewer : suc (at (complete k kind) kind) ≡ at k kind = omega (arith, at-complete k kind kind (takes-now .some-left), one-self kind) in
+          let n : suc taken ≡ at upto kind - at (complete k kind) kind = omega (arith, here, fewer, left-within, at-minus upto kind low) in
+          job-is ∙ rw (← (at-minus (l .begins) kind low)) (jobs-at (t .valid) (t .prepared) kind taken low high taken-few ∙ ap (at (jobsOf (problem q) kind)) n)
+
+      pub follow-more : Following q upto index first places (set order place job) left′ (total - getD (q .weights) (kind - 1) 0) y (i - getD (l .strides) (kind - 1) 0) (place + 1)
+      follow-more = record {
+        left-is = left-then;
+        weighs = weighs-then;
+        within = within-then;
+        gone = rw then-is (omega (arith, complete-sum k kind (takes-now .some-left), t .so-far .gone));
+        takes = rw then-is takes-next-kind;
+        rest = rw (then-is, add-one place, job-taken) (ap (sets order place) (sym (by-hand-more (problem q) upto k kind y (takes-now .some-left) next-kind)) ∙ t .so-far .rest);
+      }

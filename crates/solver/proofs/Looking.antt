@@ -1,0 +1,86 @@
+-- A filled table, looked at from any k: what the callees may rely on, and that the least by the table is the recursion's.
+-- Assumes nothing.
+use Prim.Native.Nat.{ℕ, suc, _-_, _≤_, _<_}
+use mathlib.Core.Bool.{cond}
+use mathlib.Core.List.{List}
+use mathlib.Core.Option.{none, some}
+use mathlib.Core.Path.{_≡_, sym, ap, _∙_}
+use native.Mathlib.Omega.{arith}
+use borrow.Author.Tests.{eq-eqb}
+use lib.Dec.{eqb}
+use lib.ListN.{length, getD, take}
+use Rattle.queue.specs.declared.Queue.{Queue}
+use Rattle.queue.specs.Record.{weight, Valid}
+use Rattle.sequencing.specs.Lists.{sum, weigh}
+use Rattle.sequencing.specs.States.{allLeft}
+use Rattle.sequencing.specs.Least.{least, argLeast}
+use Rattle.sequencing.specs.Recursion.{W, choice}
+use Rattle.sequencing.specs.Entries.{digits, block, entries, stored}
+use Rattle.sequencing.proofs.AllJobs.{left-small}
+use Rattle.sequencing.proofs.Entries.{left-digits}
+use Rattle.sequencing.proofs.Vectors.{at-sum}
+use Rattle.problem.specs.OfQueue.{problem}
+use Rattle.problem.proofs.Rule.{few-jobs}
+use Rattle.jobs_left.specs.Steps.{LeftAt}
+use Rattle.jobs_left.proofs.LeftAt.{left-at}
+use Rattle.layout.specs.declared.Layout.{Layout}
+use Rattle.layout.specs.Prepared.{Prepared}
+use Rattle.next_states.specs.declared.Least.{Least}
+use Rattle.next_states.specs.NextStates.{nextValues, candidate, Loadable, Ready, IsLeast}
+use Rattle.filling.specs.Filling.{Earlier}
+use Rattle.filling.proofs.Values.{Look, loadable, ready, least-is, taken-is}
+
+-- no more jobs are left than there are
+pub few-left : {q : Queue} → Valid q → (i : ℕ) → sum (digits (allLeft (problem q)) i) ≤ 60
+few-left {q} v i = omega (arith, left-small (problem q) (digits (allLeft (problem q)) i) (left-digits (problem q) i), few-jobs q v)
+
+module _ {q : Queue} {l : Layout} (v : Valid q) (p : Prepared q l) {left : List ℕ} {i : ℕ} (w : LeftAt (problem q) left i) where
+  -- what weighing the jobs left may rely on
+  pub may-weigh : length (q .weights) ≡ 5
+      → (l .size .kinds ≤ 5) × ((length left ≡ 5) × ((length (q .weights) ≡ 5) × (((j : ℕ) → j < l .size .kinds → getD left j 0 ≤ 60) × ((j : ℕ) → j < l .size .kinds → getD (q .weights) j 0 ≤ 1000))))
+  may-weigh long = rw (p .kinds-are) (v .kinds .1, (w .long, (long, (few, light))))
+    where
+      few : (j : ℕ) → j < q .kinds → getD left j 0 ≤ 60
+      few j h = omega (arith, left-at w (suc j) (omega arith) h, at-sum (digits (allLeft (problem q)) i) (suc j), few-left v i)
+
+      light : (j : ℕ) → j < q .kinds → getD (q .weights) j 0 ≤ 1000
+      light j h = let e : suc j - 1 ≡ j = omega arith in rw e at (v .weights (suc j) (omega arith) h)
+
+  pub weighed : {total : ℕ} → total ≡ weigh (weight q) (take (l .size .kinds) left) → total ≡ weigh (weight q) (digits (allLeft (problem q)) i)
+  weighed e = e ∙ rw (p .kinds-are, w .here)
+
+  -- with every entry filled
+  pub whole : {table : List ℕ} → length (q .gaps) ≡ 30 → Earlier (problem q) table (block (problem q)) → entries (problem q) ≤ length table → Look q l table left i
+  whole long all room = record {
+    valid = v;
+    prepared = p;
+    gaps-long = long;
+    earlier = λ L j a u h. all L j a u (omega (arith, w .within));
+    room = room;
+    left-at = w;
+  }
+
+module _ {q : Queue} {l : Layout} {table left : List ℕ} {i : ℕ} (look : Look q l table left i) {total w : ℕ}
+    (weighs : total ≡ weigh (weight q) (digits (allLeft (problem q)) i)) (step : w ≡ cond (eqb (q .goal) 1) 1 total) where
+  step-is : w ≡ W (problem q) (digits (allLeft (problem q)) i)
+  unfolding W
+  step-is = step ∙ rw weighs
+
+  -- what looking for the next kind may rely on
+  pub may-look : (row : ℕ) → row ≤ q .kinds
+      → Loadable table left (l .strides) (l .size .block) i × (Ready (nextValues table left (l .strides) (l .size .block) i) (q .gaps) row w × (q .goal ≡ 1 → w ≡ 1))
+  may-look row u = (loadable look, (rw step-is (ready look row u), λ e. step ∙ rw (eq-eqb _ _ e)))
+
+  -- what is found: the recursion's next kind and its cost
+  module _ (row : ℕ) {r : Least} (found : IsLeast (candidate (nextValues table left (l .strides) (l .size .block) i) (q .gaps) row w) r) where
+    by-table : IsLeast (candidate (nextValues table left (l .strides) (l .size .block) i) (q .gaps) row (W (problem q) (digits (allLeft (problem q)) i))) r
+    by-table = rw step-is at found
+
+    pub cost-found : r .cost ≡ stored (least (choice (problem q) row (digits (allLeft (problem q)) i)) (q .kinds))
+    cost-found = by-table .cost-is ∙ ap stored (least-is look row)
+
+    pub kind-found : (c : ℕ) → least (choice (problem q) row (digits (allLeft (problem q)) i)) (q .kinds) ≡ some c → r .kind ≡ argLeast (choice (problem q) row (digits (allLeft (problem q)) i)) (q .kinds)
+    kind-found c e = by-table .kind-is c (least-is look row ∙ e) ∙ taken-is look row c e
+
+    pub none-found : least (choice (problem q) row (digits (allLeft (problem q)) i)) (q .kinds) ≡ none → r .kind ≡ 0
+    none-found e = by-table .no-kind (least-is look row ∙ e)
