@@ -1,5 +1,7 @@
 // The queue message: its record. Its reader is `queue_reader`, its writer `queue_writer`.
 use refusal::Verdict;
+ghost use mathlib.Core.Path.{_≡_};
+ghost use Rattle.queue.specs.Record.{windowOk};
 
 // A queue. Numbers are wider than their bounds, so that each of the writer's refusals is a condition on a record.
 // Kinds, jobs and places count from 1; what stands past `kinds` and `jobs` means nothing, and is 0 in a record that was read.
@@ -37,4 +39,14 @@ pub struct Settings {
     pub goal: u32,
     pub max_shift: u32,
     pub start: u32,
+}
+
+// Whether a kind may be allowed these places.
+pub fn is_window(first: u64, last: u64) -> bool
+    ensures { λ r. ⌜ r ≡ windowOk (first, last) ⌝ }
+{
+    if !fields::is_within(first, 1, last) {
+        return false;
+    }
+    last <= 60
 }

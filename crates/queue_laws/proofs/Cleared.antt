@@ -16,29 +16,23 @@ use Rattle.queue.specs.Record.{rows, Valid}
 use Rattle.queue.specs.Reading.{cleared}
 use Rattle.queue.specs.Writing.{message, judgeSettings, judgeTables, judgeHead, judgeJobs, judge, writeQueue, writtenQueue}
 use Rattle.fields.specs.Messages.{_before_}
-use Rattle.queue_laws.proofs.Parts.{Parts, tablesFormat, queueFormat}
-use Rattle.queue_laws.proofs.Queues.{view, TablesFit, tables-back, kinds-back, sized, message-is, judge-is}
-use Rattle.queue_laws.proofs.Theorems.{judged-valid}
+use Rattle.queue_laws.proofs.Format.{Parts, tablesFormat, queueFormat}
+use Rattle.queue_laws.proofs.Message.{view, TablesFit, tables-back, kinds-back, sized, message-is, judge-is}
+use Rattle.queue_laws.proofs.Theorems.{judged-exactly}
 
 -- two records with the same parts
 module _ (q r : Queue) (same : view q ≡ view r) where
-  pub same-judge : judge q ≡ judge r
+  same-judge : judge q ≡ judge r
   same-judge = judge-is q ∙ ap (queueFormat .judge) same ∙ sym (judge-is r)
 
-  pub same-message : message q ≡ message r
+  same-message : message q ≡ message r
   same-message = message-is q ∙ ap (λ (p : Parts). (0x51 ∷ 0x53 ∷ []) ++ queueFormat .write p) same ∙ sym (message-is r)
-
-  pub same-answer : (room : ℕ) → writeQueue q room ≡ writeQueue r room
-  unfolding writeQueue
-  same-answer room = rw (same-judge, same-message)
-
-  pub same-buffer : (buffer : List ℕ) → writtenQueue q buffer ≡ writtenQueue r buffer
-  unfolding writtenQueue
-  same-buffer buffer = rw (same-answer (length buffer), same-message)
 
 module _ (q : Queue) where
   tables-fit : q .kinds ≤ 5 → TablesFit (view q)
-  tables-fit five = let n = sized q .1 .1 .0 in (five, (n .0 .0, all-map _ _ (rows q) (λ r h. h .0) (n .0 .1)), n .1 .0 .0, n .1 .1 .0)
+  tables-fit five =
+      let (gaps, (weights, windows)) = sized q .1 .1 .0 in
+      record { few = five; rows = gaps .0; columns = all-map _ _ (rows q) (λ r h. h .0) (gaps .1); weights = weights .0; windows = windows .0 }
 
   -- the parts of a record within the arrays' bounds are those of the record with 0 past N and T
   cleared-view : q .kinds ≤ 5 → q .jobs ≤ 60 → view (cleared q) ≡ view q
@@ -79,12 +73,12 @@ module _ (q : Queue) where
   -- the writer's answer and the buffer: for every record, also one that is refused
   answer-after : (v : Verdict) → judge q ≡ v → (room : ℕ) → writeQueue (cleared q) room ≡ writeQueue q room
   unfolding writeQueue
-  answer-after Accepted e room = rw (cleared-judge, cleared-message (judged-valid q e))
+  answer-after Accepted e room = rw (cleared-judge, cleared-message (judged-exactly q .0 e))
   answer-after (Refused r) e room = rw (cleared-judge, e)
 
   buffer-after : (v : Verdict) → judge q ≡ v → (buffer : List ℕ) → writtenQueue (cleared q) buffer ≡ writtenQueue q buffer
   unfolding writeQueue writtenQueue
-  buffer-after Accepted e buffer = rw (cleared-judge, cleared-message (judged-valid q e))
+  buffer-after Accepted e buffer = rw (cleared-judge, cleared-message (judged-exactly q .0 e))
   buffer-after (Refused r) e buffer = rw (cleared-judge, e)
 
   pub cleared-answer : (room : ℕ) → writeQueue (cleared q) room ≡ writeQueue q room

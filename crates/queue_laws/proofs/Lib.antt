@@ -1,7 +1,7 @@
+pub mod Arrays
 pub mod GapRows
-pub mod Parts
-pub mod Queues
+pub mod Format
+pub mod Message
 pub mod Theorems
 pub mod Cleared
 pub mod Zeros
-pub mod Arrays

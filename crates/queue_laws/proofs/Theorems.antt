@@ -1,4 +1,4 @@
--- What reading and writing queues promise together, from the message's one format.
+-- What reading and writing queues promise together.
 -- Assumes nothing.
 use Prim.Native.Nat.{ℕ, _≤_}
 use mathlib.Core.Path.{_≡_, refl, sym, ap, _∙_}
@@ -18,9 +18,9 @@ use Rattle.queue.specs.Reading.{queue, accepted, asReading, readQueue, cleared}
 use Rattle.queue.specs.Writing.{message, judge}
 use Rattle.queue.specs.Refusals.{QueueRefusal, on-opening, on-ends, on-malformed, on-edition, on-kinds, on-goal, on-shift, on-start, on-gap, on-pupils, on-places, on-jobs, on-kind, on-left-over}
 use Rattle.formats.proofs.Formats.{arises-in}
-use Rattle.queue_laws.proofs.Queues.{queueRefusals, queue-message}
+use Rattle.queue_laws.proofs.Message.{queueRefusals, queue-message}
 
--- ---- what the answer says of what was found
+-- ---- what a reading says of what was found
 
 accepted-found : (f : Found Queue) → asReading f .verdict ≡ Accepted → (n : ℕ) × (f ≡ found (asReading f .queue) n)
 accepted-found (found q n) e = (n, refl)
@@ -30,7 +30,7 @@ refused-as : (f : Found Queue) (r : Reason) → asReading f .verdict ≡ Refused
 refused-as (found q n) r e = let z : _≡_ {A = ℕ} 0 1 = cc in absurd (omega arith)
 refused-as (refused q) r e = cc
 
--- ---- the laws
+-- ---- written and read
 
 -- a record within 01's bounds, written and read, is the same record up to N and T
 pub written-read : (q : Queue) → Valid q → readQueue (message q) ≡ accepted (cleared q)
@@ -38,7 +38,6 @@ unfolding readQueue
 written-read q v = ap asReading (queue-message .written q v)
 
 module _ (s : List ℕ) (y : Bytes s) (a : readQueue s .verdict ≡ Accepted) where
-  -- an accepted message is its record's message; its record is within 01's bounds, and holds 0 past N and T
   accepted-back : (message (readQueue s .queue) ≡ s) × Valid (readQueue s .queue) × (cleared (readQueue s .queue) ≡ readQueue s .queue)
   unfolding readQueue
   accepted-back = let (n, e) = accepted-found (queue s 0) a in queue-message .back s y (asReading (queue s 0) .queue) n e
@@ -47,9 +46,11 @@ module _ (s : List ℕ) (y : Bytes s) (a : readQueue s .verdict ≡ Accepted) wh
   pub read-written : message (readQueue s .queue) ≡ s
   read-written = accepted-back .0
 
+  -- an accepted record is within 01's bounds ..
   pub accepted-valid : Valid (readQueue s .queue)
   accepted-valid = accepted-back .1
 
+  -- .. and holds 0 past N and T
   pub accepted-cleared : cleared (readQueue s .queue) ≡ readQueue s .queue
   accepted-cleared = accepted-back .2
 
@@ -65,18 +66,13 @@ pub first-180 : (s : List ℕ) → Bytes s → readQueue (take 180 s) ≡ readQu
 unfolding readQueue
 first-180 s y = ap asReading (queue-message .same s y)
 
+-- a message has at most 178 bytes
 pub message-length : (q : Queue) → Valid q → length (message q) ≤ 178
 message-length q v = queue-message .short q v
 
-pub accepted-length : (s : List ℕ) → Bytes s → readQueue s .verdict ≡ Accepted → length s ≤ 178
-accepted-length s y a = rw (read-written s y a) at (message-length (readQueue s .queue) (accepted-valid s y a))
-
--- the verdict accepts exactly what is within 01's bounds
-pub judged-valid : (q : Queue) → judge q ≡ Accepted → Valid q
-judged-valid q e = queue-message .accepts q .0 e
-
-pub valid-judged : (q : Queue) → Valid q → judge q ≡ Accepted
-valid-judged q v = queue-message .accepts q .1 v
+-- the writer's verdict accepts exactly the records within 01's bounds
+pub judged-exactly : (q : Queue) → (judge q ≡ Accepted) ↔ Valid q
+judged-exactly = queue-message .accepts
 
 -- ---- refusals
 

@@ -1,6 +1,6 @@
 -- A cleared record holds 0 past N and T.
 -- Assumes nothing.
-use Prim.Native.Nat.{ℕ, suc, _+_, _*_, _/_, _%_, _≤_, _<_}
+use Prim.Native.Nat.{ℕ, suc, _+_, _/_, _%_, _≤_, _<_}
 use mathlib.Core.Path.{_≡_, refl, _∙_}
 use mathlib.Core.Logic.{_⊎_, inl, inr}
 use mathlib.Core.List.{List, [], _∷_, map}
@@ -12,6 +12,7 @@ use Rattle.fields.specs.Lists.{tabulate}
 use Rattle.fields.proofs.Codecs.{All}
 use Rattle.fields.proofs.Tables.{length-tabulate, all-tabulate}
 use Rattle.fields.proofs.Arrays.{getD-sets-past, getD-sets-before, getD-zeros, filled-past}
+use Rattle.gaps.specs.Gaps.{gapRow}
 use Rattle.queue.specs.declared.Queue.{Queue}
 use Rattle.queue.specs.Record.{gap, weight, firstPlace, lastPlace, kind, rows, weightList, windows, kindList}
 use Rattle.queue.specs.Reading.{placed, cleared}
@@ -21,16 +22,16 @@ placed-past : (n m : ℕ) → n ≤ 5 → (rows : List (List ℕ)) (gaps : List 
     → (n ≤ m % 5) ⊎ (k + length rows ≤ m / 5) → getD (placed gaps k rows) m 0 ≡ getD gaps m 0
 unfolding placed
 placed-past n m five [] gaps k h out = refl
-placed-past n m five (r ∷ rs) gaps k h out = placed-past n m five rs (sets gaps (5 * k) r) (suc k) (h .1) (next out) ∙ here (below-or-not m (5 * k)) out
+placed-past n m five (r ∷ rs) gaps k h out = placed-past n m five rs (sets gaps (gapRow k) r) (suc k) (h .1) (next out) ∙ here (below-or-not m (gapRow k)) out
   where
     next : (n ≤ m % 5) ⊎ (k + suc (length rs) ≤ m / 5) → (n ≤ m % 5) ⊎ (suc k + length rs ≤ m / 5)
     next (inl e) = inl e
     next (inr e) = inr (omega arith)
 
-    here : (m < 5 * k) ⊎ (5 * k ≤ m) → (n ≤ m % 5) ⊎ (k + suc (length rs) ≤ m / 5) → getD (sets gaps (5 * k) r) m 0 ≡ getD gaps m 0
-    here (inl b) o = getD-sets-before gaps (5 * k) r m b
-    here (inr b) (inl e) = getD-sets-past gaps (5 * k) r m (omega (arith, h .0))
-    here (inr b) (inr e) = getD-sets-past gaps (5 * k) r m (omega (arith, h .0))
+    here : (m < gapRow k) ⊎ (gapRow k ≤ m) → (n ≤ m % 5) ⊎ (k + suc (length rs) ≤ m / 5) → getD (sets gaps (gapRow k) r) m 0 ≡ getD gaps m 0
+    here (inl b) o = getD-sets-before gaps (gapRow k) r m b
+    here (inr b) (inl e) = getD-sets-past gaps (gapRow k) r m (omega (arith, h .0))
+    here (inr b) (inr e) = getD-sets-past gaps (gapRow k) r m (omega (arith, h .0))
 
 module _ (q : Queue) where
   pub weights-past : (k : ℕ) → q .kinds ≤ k → getD (cleared q .weights) k 0 ≡ 0

@@ -1,4 +1,4 @@
--- The definitions of the queue message say its format; so the laws of formats hold of them.
+-- The definitions of the queue message are its format's, of a record's parts; so the laws of formats hold of them.
 -- Assumes nothing.
 use Prim.Native.Nat.{ℕ, _+_, _-_, _^_, _<_, _≤_}
 use mathlib.Core.Path.{_≡_, refl, sym, ap, _∙_}
@@ -23,15 +23,17 @@ use Rattle.formats.proofs.Pairs.{and-assoc}
 use Rattle.formats.proofs.Runs.{InTurn, kept, each-all, all-any}
 use Rattle.formats.proofs.Messages.{Message, Tied, whole, laws}
 use Rattle.queue_laws.proofs.GapRows.{rows-back}
-use Rattle.queue_laws.proofs.Parts.{WindowOk, Parts, settingsFormat, queueFormat}
+use Rattle.queue_laws.proofs.Format.{WindowOk, settingsFormat, Parts, settingsOf, rowsOf, weightsOf, windowsOf, jobsOf, kindsOf, queueFormat}
 
 -- a record's parts, up to N and T
 abbrev pub view : Queue → Parts
 view q = (1, (record { kinds = q .kinds; goal = q .goal; «max_shift» = q .«max_shift»; start = q .start }, ((rows q, (weightList q, windows q)), (q .jobs, kindList q))))
 
--- the record that they are read to
+-- the record that parts are read to
 abbrev pub make : Parts → Queue
-make p = withJobs (headOf (p .1 .0) (p .1 .1 .0 .0) (p .1 .1 .0 .1 .0) (p .1 .1 .0 .1 .1)) (p .1 .1 .1 .0) (p .1 .1 .1 .1)
+make p = withJobs (headOf (settingsOf p) (rowsOf p) (weightsOf p) (windowsOf p)) (jobsOf p) (kindsOf p)
+
+-- ---- the definitions are the format's
 
 read-is : (s : List ℕ) → queue s 0 ≡ whole 0x51 0x53 queueFormat make s 0
 unfolding queue head settings tables jobs
@@ -47,7 +49,6 @@ message-is q =
     grouped (0x51 ∷ 0x53 ∷ []) (encode 1) (encode (q .kinds)) (encode (q .goal)) (encode (q .«max_shift»)) (encode (q .start))
     (flatMap encodeAll (rows q)) (encodeAll (weightList q)) (flatMap encodeWindow (windows q)) (encode (q .jobs)) (encodeAll (kindList q))
 
--- the verdict is the format's
 pub judge-is : (q : Queue) → judge q ≡ queueFormat .judge (view q)
 unfolding judge judgeHead judgeSettings judgeTables judgeJobs
 judge-is q = before-assoc (judgeSettings q) (judgeTables q) (judgeJobs q)
@@ -63,37 +64,51 @@ few-kinds q e = settingsFormat {Given = Unit {0}} .accepts tt (view q .1 .0) (tt
 array-back : (m n : ℕ) (vs : List ℕ) → length vs ≡ n → n ≤ m → tabulate (λ j. getD (filled m vs) (j - 1) 0) 1 n ≡ vs
 array-back m n vs long few = ap (tabulate (λ j. getD (filled m vs) (j - 1) 0) 1) (sym long) ∙ tabulate-filled m vs (omega arith)
 
--- as many of each table's numbers as N says, in arrays that hold 5
-abbrev pub TablesFit : Parts → Type 0
-TablesFit p = let n : ℕ = p .1 .0 .kinds in (n ≤ 5) × ((length (p .1 .1 .0 .0) ≡ n + 1) × All (λ r. length r ≡ n) (p .1 .1 .0 .0)) × (length (p .1 .1 .0 .1 .0) ≡ n) × (length (p .1 .1 .0 .1 .1) ≡ n)
+-- as many of each table's numbers as N says, in arrays that hold them
+pub record TablesFit (p : Parts) : Type 0 where
+  pub few : settingsOf p .kinds ≤ 5
+  pub rows : length (rowsOf p) ≡ settingsOf p .kinds + 1
+  pub columns : All (λ r. length r ≡ settingsOf p .kinds) (rowsOf p)
+  pub weights : length (weightsOf p) ≡ settingsOf p .kinds
+  pub windows : length (windowsOf p) ≡ settingsOf p .kinds
 
 module _ (p : Parts) where
   pub tables-back : TablesFit p → view (make p) .1 .1 .0 ≡ p .1 .1 .0
-  tables-back (five, rows, weights, pairs) =
-      let n = p .1 .0 .kinds in
-      let ws = p .1 .1 .0 .1 .1 in
-      let side : (f : ℕ × ℕ → ℕ) → tabulate (λ j. getD (filled 5 (map f ws)) (j - 1) 0) 1 n ≡ map f ws = λ f. array-back 5 n (map f ws) (length-map ws f ∙ pairs) five in
-      let gaps-same = rows-back n (p .1 .1 .0 .0) five (rows .0) (rows .1) in
-      let weights-same = array-back 5 n (p .1 .1 .0 .1 .0) weights five in
+  tables-back fit =
+      let n = settingsOf p .kinds in
+      let ws = windowsOf p in
+      let side : (f : ℕ × ℕ → ℕ) → tabulate (λ j. getD (filled 5 (map f ws)) (j - 1) 0) 1 n ≡ map f ws = λ f. array-back 5 n (map f ws) (length-map ws f ∙ fit .windows) (fit .few) in
+      let gaps-same = rows-back n (rowsOf p) (fit .few) (fit .rows) (fit .columns) in
+      let weights-same = array-back 5 n (weightsOf p) (fit .weights) (fit .few) in
       let places-same = tabulate-pairs (firstPlace (make p)) (lastPlace (make p)) 1 n ws (side (λ w. w .0)) (side (λ w. w .1)) in
       λ i. (gaps-same i, (weights-same i, places-same i))
 
-  pub kinds-back : length (p .1 .1 .1 .1) ≡ p .1 .1 .1 .0 → p .1 .1 .1 .0 ≤ 60 → kindList (make p) ≡ p .1 .1 .1 .1
-  kinds-back long few = array-back 60 (p .1 .1 .1 .0) (p .1 .1 .1 .1) long few
+  pub kinds-back : length (kindsOf p) ≡ jobsOf p → jobsOf p ≤ 60 → kindList (make p) ≡ kindsOf p
+  kinds-back long few = array-back 60 (jobsOf p) (kindsOf p) long few
 
   holds : queueFormat .Ok p → view (make p) ≡ p
-  holds k =
-      let ok = k .1 .1 .0 in
-      let one : 1 ≡ p .0 = omega (arith, k .0) in
-      let tables = tables-back (k .1 .0 .0 .1, (ok .0 .0, all-map _ _ (p .1 .1 .0 .0) (λ r h. h .0) (ok .0 .1)), ok .1 .0 .0, ok .1 .1 .0) in
-      let kinds = kinds-back (k .1 .1 .1 .1 .0) (k .1 .1 .1 .0 .1) in
-      λ i. (one i, (p .1 .0, (tables i, (p .1 .1 .1 .0, kinds i))))
+  holds (edition-ok, (settings-ok, ((gaps-ok, (weights-ok, windows-ok)), (count-ok, kinds-ok)))) =
+      let one : 1 ≡ p .0 = omega (arith, edition-ok) in
+      let fit : TablesFit p = record {
+        few = settings-ok .0 .1;
+        rows = gaps-ok .0;
+        columns = all-map _ _ (rowsOf p) (λ r h. h .0) (gaps-ok .1);
+        weights = weights-ok .0;
+        windows = windows-ok .0;
+      } in
+      let tables = tables-back fit in
+      let kinds = kinds-back (kinds-ok .0) (count-ok .1) in
+      λ i. (one i, (settingsOf p, (tables i, (jobsOf p, kinds i))))
 
 -- ---- a record's own parts
 
 module _ (q : Queue) where
   abbrev row : ℕ → List ℕ
   row i = tabulate (gap q i) 1 (q .kinds)
+
+  -- a gap row as 01 allows it
+  abbrev RowOk : List ℕ → Type 0
+  RowOk r = (length r ≡ q .kinds) × All (λ w. (0 ≤ w) × (w ≤ 65535)) r
 
   abbrev places : ℕ → ℕ × ℕ
   places j = (firstPlace q j, lastPlace q j)
@@ -112,42 +127,34 @@ module _ (q : Queue) where
         ),
       )
 
-  -- 01's bounds, part by part
+  -- what the format accepts is what 01 allows
   ok-valid : queueFormat .Ok (view q) → Valid q
-  ok-valid k =
-      let f = k .1 .0 in
-      let t = k .1 .1 .0 in
-      let j = k .1 .1 .1 in
+  ok-valid (edition-ok, (settings-ok, ((gaps-ok, (weights-ok, windows-ok)), (count-ok, kinds-ok)))) =
       record {
-        kinds = f .0;
-        goal = f .1 .0;
-        shift = f .1 .1 .0 .1;
-        start = f .1 .1 .1 .1;
-        gaps = λ i j a b d. tabulate-all (gap q i) (λ v. (0 ≤ v) × (v ≤ 65535)) 1 (q .kinds) (tabulate-all row _ 0 (q .kinds + 1) (t .0 .1) i (omega arith) (omega arith) .1) j b (omega arith) .1;
-        weights = λ j a b. tabulate-all (weight q) (λ v. (0 ≤ v) × (v ≤ 1000)) 1 (q .kinds) (t .1 .0 .1) j a (omega arith) .1;
-        places = λ j a b. tabulate-all places WindowOk 1 (q .kinds) (t .1 .1 .1) j a (omega arith);
-        jobs = j .0 .1;
-        kinds-of-jobs = λ i a b. tabulate-all (kind q) (λ v. (1 ≤ v) × (v ≤ q .kinds)) 1 (q .jobs) (j .1 .1) i a (omega arith);
+        kinds = settings-ok .0;
+        goal = settings-ok .1 .0;
+        shift = settings-ok .1 .1 .0 .1;
+        start = settings-ok .1 .1 .1 .1;
+        gaps = λ i j a b d. tabulate-all (gap q i) (λ v. (0 ≤ v) × (v ≤ 65535)) 1 (q .kinds) (tabulate-all row RowOk 0 (q .kinds + 1) (gaps-ok .1) i (omega arith) (omega arith) .1) j b (omega arith) .1;
+        weights = λ j a b. tabulate-all (weight q) (λ v. (0 ≤ v) × (v ≤ 1000)) 1 (q .kinds) (weights-ok .1) j a (omega arith) .1;
+        places = λ j a b. tabulate-all places WindowOk 1 (q .kinds) (windows-ok .1) j a (omega arith);
+        jobs = count-ok .1;
+        kinds-of-jobs = λ i a b. tabulate-all (kind q) (λ v. (1 ≤ v) × (v ≤ q .kinds)) 1 (q .jobs) (kinds-ok .1) i a (omega arith);
       }
 
   valid-ok : Valid q → queueFormat .Ok (view q)
   valid-ok v =
-      let n = sized .1 .1 in
-      let gaps : (i : ℕ) → 0 ≤ i → i < 0 + (q .kinds + 1) → (length (row i) ≡ q .kinds) × All (λ w. (0 ≤ w) × (w ≤ 65535)) (row i) = λ i a b.
-      (length-tabulate (gap q i) 1 (q .kinds), all-tabulate (gap q i) (λ w. (0 ≤ w) × (w ≤ 65535)) 1 (q .kinds) (λ j c d. (omega arith, v .gaps i j (omega arith) c (omega arith)))) in (
+      let (_, (_, ((gaps-sized, (weights-sized, windows-sized)), (_, kinds-sized)))) = sized in
+      let row-ok : (i : ℕ) → 0 ≤ i → i < 0 + (q .kinds + 1) → RowOk (row i) = λ i a b.
+      (length-tabulate (gap q i) 1 (q .kinds), all-tabulate (gap q i) (λ w. (0 ≤ w) × (w ≤ 65535)) 1 (q .kinds) (λ j c d. (omega arith, v .gaps i j (omega arith) c (omega arith)))) in
+      let gaps-ok = all-tabulate row RowOk 0 (q .kinds + 1) row-ok in
+      let weights-ok = all-tabulate (weight q) (λ w. (0 ≤ w) × (w ≤ 1000)) 1 (q .kinds) (λ j a b. (omega arith, v .weights j a (omega arith))) in
+      let windows-ok = all-tabulate places WindowOk 1 (q .kinds) (λ j a b. v .places j a (omega arith)) in
+      let kinds-ok = all-tabulate (kind q) (λ w. (1 ≤ w) × (w ≤ q .kinds)) 1 (q .jobs) (λ i a b. v .kinds-of-jobs i a (omega arith)) in (
         (omega arith, omega arith),
         (
           (v .kinds, (v .goal, ((omega arith, v .shift), (omega arith, v .start)))),
-          (
-            (
-              (n .0 .0 .0, all-tabulate row _ 0 (q .kinds + 1) gaps),
-              (
-                (n .0 .1 .0 .0, all-tabulate (weight q) (λ w. (0 ≤ w) × (w ≤ 1000)) 1 (q .kinds) (λ j a b. (omega arith, v .weights j a (omega arith)))),
-                (n .0 .1 .1 .0, all-tabulate places WindowOk 1 (q .kinds) (λ j a b. v .places j a (omega arith))),
-              ),
-            ),
-            ((omega arith, v .jobs), (n .1 .1 .0, all-tabulate (kind q) (λ w. (1 ≤ w) × (w ≤ q .kinds)) 1 (q .jobs) (λ i a b. v .kinds-of-jobs i a (omega arith)))),
-          ),
+          (((gaps-sized .0, gaps-ok), ((weights-sized .0, weights-ok), (windows-sized .0, windows-ok))), ((omega arith, v .jobs), (kinds-sized .0, kinds-ok))),
         ),
       )
 

@@ -1,4 +1,5 @@
--- The queue message as one format: what it holds, in message order.
+-- The queue message as one format: what stands between its opening and its end, in message order.
+-- The numbers of each format: the most bytes it has, the bytes that decide what is found, and the refusals it can give beside 2 and 3.
 -- Assumes nothing.
 use Prim.Native.Nat.{ℕ, _+_, _^_, _≤_}
 use mathlib.Core.Path.{refl}
@@ -29,16 +30,16 @@ settingsParts =
     andNext (oneByte 0 60 Shift (λ z. omega arith)) λ shift.
     oneByte 0 n Start (λ z. omega arith)
 
--- .. as the record that they are read to
+-- .. read to their record
 abbrev pub settingsFormat : {Given : Type 0} → Format Settings Given 4 6 (Kinds ∷ Goal ∷ Shift ∷ Start ∷ [])
 settingsFormat = mapped settingsParts (λ p. record { kinds = p .0; goal = p .1 .0; «max_shift» = p .1 .1 .0; start = p .1 .1 .1 })
     (λ f. (f .kinds, (f .goal, (f .«max_shift», f .start)))) (λ p. refl) (λ f. refl)
 
--- a_j b_j
+-- a_j b_j as 01 allows them
 abbrev pub WindowOk : ℕ × ℕ → Type 0
 WindowOk w = (1 ≤ w .0) × (w .0 ≤ w .1) × (w .1 ≤ 60)
 
--- judged after b_j
+-- a_j b_j: any number, then one that is judged with it
 abbrev pub windowFormat : {Given : Type 0} → Format (ℕ × ℕ) Given 2 6 (Places ∷ [])
 windowFormat =
     rejudged (andNext (anyNumber 3 (omega arith)) λ a. tested 3 (λ b. windowOk (a, b)) Places 1 (omega arith) (omega arith) (λ z b e. let k = good-window a b e in (omega arith, omega arith)))
@@ -66,11 +67,30 @@ jobsFormat n few =
     andNext (oneByte 0 60 Jobs (λ z. omega arith)) λ t.
     numbers t 60 (λ z. omega arith) 1 n Kind 1 (omega arith) (λ z. let k = few (z .0) in (omega arith, omega arith))
 
--- what a message holds between its two ends
+-- edition, settings, tables, jobs
 abbrev pub Parts : Type 0
 Parts = ℕ × (Settings × ((List (List ℕ) × (List ℕ × List (ℕ × ℕ))) × (ℕ × List ℕ)))
 
--- edition 1, the settings, the tables, the jobs
+module _ (p : Parts) where
+  abbrev pub settingsOf : Settings
+  settingsOf = p .1 .0
+
+  abbrev pub rowsOf : List (List ℕ)
+  rowsOf = p .1 .1 .0 .0
+
+  abbrev pub weightsOf : List ℕ
+  weightsOf = p .1 .1 .0 .1 .0
+
+  abbrev pub windowsOf : List (ℕ × ℕ)
+  windowsOf = p .1 .1 .0 .1 .1
+
+  abbrev pub jobsOf : ℕ
+  jobsOf = p .1 .1 .1 .0
+
+  abbrev pub kindsOf : List ℕ
+  kindsOf = p .1 .1 .1 .1
+
+-- the whole: edition 1, then N to the allowed places, then the jobs
 abbrev pub queueFormat : Format Parts (Unit {0}) 176 178 (Edition ∷ Kinds ∷ Goal ∷ Shift ∷ Start ∷ Gap ∷ Pupils ∷ Places ∷ Jobs ∷ Kind ∷ [])
 queueFormat =
     andNext (oneByte 1 1 Edition (λ z. omega arith)) λ edition.
