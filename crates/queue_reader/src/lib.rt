@@ -16,7 +16,6 @@ ghost use Rattle.number.specs.Readers.{found, refused, times};
 ghost use Rattle.fields.specs.Fields.{field, within};
 ghost use Rattle.fields.specs.Answers.{asOutcome};
 ghost use Rattle.fields.specs.Lists.{filled};
-ghost use Rattle.queue.specs.Record.{windowOk};
 ghost use Rattle.queue.specs.Reading.{window, placed, settings, tables, head, jobs, closed, asReading, readQueue};
 ghost use Rattle.queue_reader.specs.Answers.{asFront, asPlaces, asHead, limits, headEnding, readingEnding};
 
@@ -28,7 +27,7 @@ pub enum Front {
 
 // What reading the allowed places of one kind finds: they and the position behind them, or the refusal.
 pub enum WindowRead {
-    Window { first: u32, last: u32, next: usize },
+    Window { first: u8, last: u8, next: usize },
     Refused(Reason),
 }
 
@@ -42,8 +41,8 @@ pub struct Head {
 pub struct Limits {
     pub outcome: Outcome,
     pub weights: [u32; 5],
-    pub first_places: [u32; 5],
-    pub last_places: [u32; 5],
+    pub first_places: [u8; 5],
+    pub last_places: [u8; 5],
 }
 
 // N, goal, shift and start.
@@ -85,7 +84,7 @@ fn read_settings(bytes: &[u8], at: usize) -> Front
     }
 }
 
-// The gap rows, row i stored from 5 * i on.
+// The gap rows, each stored where it begins.
 fn read_gaps(bytes: &[u8], at: usize, kinds: usize, gaps: &mut [u32]) -> Outcome
     requires { ⌜ (kinds ≤ 5) × (30 ≤ length (now gaps)) ⌝ }
     ensures { λ r. ⌜ r ≡ asOutcome (times (kinds + 1) (times kinds (field 3 (within 0 65535) Reason.Gap)) (now (bytes .entry)) at) ⌝ }
@@ -102,7 +101,7 @@ fn read_gaps(bytes: &[u8], at: usize, kinds: usize, gaps: &mut [u32]) -> Outcome
             65535,
             Reason::Gap,
             gaps,
-            5 * row,
+            gaps::row_start(row),
         );
         match outcome {
             Outcome::Next(next) => {
@@ -115,22 +114,6 @@ fn read_gaps(bytes: &[u8], at: usize, kinds: usize, gaps: &mut [u32]) -> Outcome
         row = row + 1;
     }
     Outcome::Next(i)
-}
-
-// Whether a kind may have these places.
-fn is_window(first: u64, last: u64) -> bool
-    ensures { λ r. ⌜ r ≡ windowOk (first, last) ⌝ }
-{
-    if first < 1 {
-        return false;
-    }
-    if last < first {
-        return false;
-    }
-    if 60 < last {
-        return false;
-    }
-    true
 }
 
 // The allowed places of one kind: both numbers are read before they are judged.
@@ -148,12 +131,12 @@ fn read_window(bytes: &[u8], at: usize) -> WindowRead
                 value: last,
                 next: b,
             } => {
-                if !is_window(first, last) {
+                if !queue::is_window(first, last) {
                     return WindowRead::Refused(Reason::Places);
                 }
                 return WindowRead::Window {
-                    first: first as u32,
-                    last: last as u32,
+                    first: first as u8,
+                    last: last as u8,
                     next: b,
                 };
             }
@@ -166,8 +149,8 @@ fn read_windows(
     bytes: &[u8],
     at: usize,
     kinds: usize,
-    first: &mut [u32],
-    last: &mut [u32],
+    first: &mut [u8],
+    last: &mut [u8],
 ) -> Outcome
     requires { ⌜ (kinds ≤ length (now first)) × (kinds ≤ length (now last)) ⌝ }
     ensures { λ r. ⌜ r ≡ asOutcome (times kinds window (now (bytes .entry)) at) ⌝ }
@@ -202,8 +185,8 @@ fn read_limits(bytes: &[u8], at: usize, kinds: usize) -> Limits
     ensures { λ r. ⌜ ((ws : List ℕ) (windows : List (ℕ × ℕ)) (n : ℕ) → limits kinds (now (bytes .entry)) at ≡ found (ws, windows) n → (r .weights ≡ filled 5 ws) × (r .«first_places» ≡ filled 5 (map (λ w. w .0) windows)) × (r .«last_places» ≡ filled 5 (map (λ w. w .1) windows))) ⌝ }
 {
     let mut weights = [0u32; 5];
-    let mut first_places = [0u32; 5];
-    let mut last_places = [0u32; 5];
+    let mut first_places = [0u8; 5];
+    let mut last_places = [0u8; 5];
     let outcome = fields_reader::read_run(
         bytes,
         at,
@@ -246,10 +229,10 @@ fn no_head(why: Reason) -> Head
             start: 0,
             gaps: [0u32; 30],
             weights: [0u32; 5],
-            first_places: [0u32; 5],
-            last_places: [0u32; 5],
+            first_places: [0u8; 5],
+            last_places: [0u8; 5],
             jobs: 0,
-            job_kinds: [0u32; 60],
+            job_kinds: [0u8; 60],
         },
     }
 }
@@ -289,7 +272,7 @@ fn read_tables(bytes: &[u8], at: usize, front: Settings) -> Head
                 first_places,
                 last_places,
                 jobs: 0,
-                job_kinds: [0u32; 60],
+                job_kinds: [0u8; 60],
             };
             return as_head(outcome, queue);
         }
@@ -338,13 +321,14 @@ fn end_reading(bytes: &[u8], outcome: Outcome, queue: Queue) -> Reading
 
 // The jobs of a queue, up to the message's end.
 fn read_jobs(bytes: &[u8], at: usize, queue: Queue) -> Reading
+    requires { ⌜ queue .kinds ≤ 5 ⌝ }
     ensures { λ r. ⌜ r ≡ asReading (closed (jobs queue) (now (bytes .entry)) at) ⌝ }
 {
     match fields_reader::read_field(bytes, at, 0, 60, Reason::Jobs) {
         Field::Refused(why) => return refused_reading(why),
         Field::Value { value: jobs, next } => {
-            let mut job_kinds = [0u32; 60];
-            let outcome = fields_reader::read_run(
+            let mut job_kinds = [0u8; 60];
+            let outcome = fields_reader::read_byte_run(
                 bytes,
                 next,
                 jobs as usize,

@@ -1,10 +1,12 @@
 -- `queue_reader::read_windows` meets its contract: `Windows` is the invariant; the kinds left fall.
 -- Assumes nothing.
 use Prim.Native.Nat.{ℕ, _-_}
-use mathlib.Core.Path.{refl, sym, ap, _∙_}
+use mathlib.Core.Path.{_≡_, refl, sym, ap, _∙_}
 use mathlib.Core.List.{List}
 use native.Mathlib.Omega.{arith}
+use Rattle.number.specs.Readers.{refused}
 use Rattle.fields.proofs.Loops.{loop-stop, loop-stopped, loop-done, loop-stored}
+use Rattle.queue.specs.Reading.{window}
 use Rattle.queue_reader.proofs.Parts.{as-window, as-closed}
 use Rattle.queue_reader.proofs.Loops.{Windows, windows-none, windows-more}
 use borrow.Author.Needs.{needs}
@@ -17,34 +19,43 @@ Inv-loop bytes at kinds first₀ last₀ i₀ kind₀ first last i kind = Window
 abbrev μ-loop : tie.MeasureT-loop
 μ-loop bytes at kinds first₀ last₀ i₀ kind₀ first last i kind = kinds - kind
 
+-- the turn's start, from where its window is known
+abbrev at-turn : tie.After-known-told Inv-loop μ-loop → tie.In-loop Inv-loop μ-loop
+at-turn c = c .before .before .before .before
+
+-- .. and from where it is refused
+abbrev at-refused : tie.After-known-told2 Inv-loop μ-loop → tie.In-loop Inv-loop μ-loop
+at-refused c = c .before .before .before .before
+
 loop-holds : tie.Need-loop-holds Inv-loop μ-loop
-loop-holds c = windows-none _ _ _ _ _
+loop-holds c = windows-none
 
 slice-write-first : tie.Need-slice-write-first Inv-loop μ-loop
-slice-write-first c = omega (arith, c .before .before .before .before .before .loop .inv .long-first)
+slice-write-first c = omega (arith, at-turn c .before .loop .inv .long-first)
 
 slice-write-last : tie.Need-slice-write-last Inv-loop μ-loop
-slice-write-last c = omega (arith, c .before .before .before .before .before .loop .inv .long-last)
+slice-write-last c = omega (arith, at-turn c .before .loop .inv .long-last)
 
 same-length : tie.Need-same-length Inv-loop μ-loop
-same-length c = c .before .before .before .before .before .loop .inv .long-first
+same-length c = at-refused c .before .loop .inv .long-first
 
 same-length-2 : tie.Need-same-length-2 Inv-loop μ-loop
-same-length-2 c = c .before .before .before .before .before .loop .inv .long-last
+same-length-2 c = at-refused c .before .loop .inv .long-last
 
 returns : tie.Need-returns Inv-loop μ-loop
 returns c =
+    let turn = at-refused c in
+    let loop = turn .before .loop .inv .loop in
     let closed = as-closed _ _ (sym (c .before .before .before .read-window .ensures) ∙ c .before .why .given .1) in
-    let loop = c .before .before .before .before .before .loop .inv .loop in (
-      loop-stop _ _ _ _ _ _ _ _ _ loop _ (c .before .before .before .before .loop-test .taken) closed,
-      λ windows n f. absurd (loop-stopped _ _ _ _ _ _ _ _ _ loop _ (c .before .before .before .before .loop-test .taken) closed windows n f),
-    )
+    (loop-stop loop _ (turn .loop-test .taken) closed, λ windows n f. loop-stopped loop _ (turn .loop-test .taken) closed windows n f)
 
 loop-less : tie.Need-loop-less Inv-loop μ-loop
 loop-less c = omega arith
 
 loop-again : tie.Need-loop-again Inv-loop μ-loop
-loop-again c = windows-more _ _ _ _ _ _ _ _ _ (c .before .before .before .before .before .loop .inv) _ _ _ (c .before .before .before .before .loop-test .taken) (as-window _ _ _ _ (sym (c .before .before .before .read-window .ensures) ∙ c .before .from .given .1))
+loop-again c =
+    let turn = at-turn c in
+    windows-more (turn .before .loop .inv) _ _ _ (turn .loop-test .taken) (as-window _ _ _ _ (sym (c .before .before .before .read-window .ensures) ∙ c .before .from .given .1))
 
 same-length-3 : tie.Need-same-length-3 Inv-loop μ-loop
 same-length-3 c = c .before .loop .inv .long-first
@@ -55,9 +66,9 @@ same-length-4 c = c .before .loop .inv .long-last
 returns-2 : tie.Need-returns-2 Inv-loop μ-loop
 returns-2 c =
     let loop = c .before .loop .inv .loop in (
-      loop-done _ _ _ _ _ _ _ _ _ loop (omega arith),
+      loop-done loop (omega arith),
       λ windows n f.
-          let e = loop-stored _ _ _ _ _ _ _ _ _ loop (omega arith) (λ st. refl) windows n f in
+          let e = loop-stored loop (omega arith) refl windows n f in
           (ap (λ (st : List ℕ × List ℕ). st .0) e, ap (λ (st : List ℕ × List ℕ). st .1) e),
     )
 
