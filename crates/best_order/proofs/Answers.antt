@@ -18,7 +18,7 @@ use Rattle.queue.specs.declared.Queue.{Queue}
 use Rattle.queue.specs.Record.{Valid}
 use Rattle.queue.specs.Reading.{readQueue}
 use Rattle.queue_laws.proofs.Theorems.{accepted-valid, queue-refusal, queue-refusal-needed}
-use Rattle.plan.proofs.Theorems.{message-length}
+use Rattle.plan_laws.proofs.Theorems.{message-length}
 use Rattle.sequencing.specs.Recursion.{planCost}
 use Rattle.sequencing.specs.Entries.{entries}
 use Rattle.problem.specs.OfQueue.{problem}

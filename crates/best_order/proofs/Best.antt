@@ -18,7 +18,7 @@ use Rattle.queue.specs.Record.{Valid}
 use Rattle.queue.specs.Reading.{readQueue}
 use Rattle.queue_laws.proofs.Theorems.{accepted-valid}
 use Rattle.plan.specs.Writing.{message}
-use Rattle.plan.proofs.Theorems.{message-length}
+use Rattle.plan_laws.proofs.Theorems.{message-length}
 use Rattle.sequencing.specs.Problem.{Problem}
 use Rattle.sequencing.specs.States.{IsPair}
 use Rattle.sequencing.specs.Recursion.{value, planCost}

@@ -12,8 +12,8 @@ use Rattle.queue.specs.Record.{Valid}
 use Rattle.plan.specs.Record.{job, jobList, Valid as PlanValid}
 use Rattle.plan.specs.Reading.{planOf, readPlan}
 use Rattle.plan.specs.Writing.{message}
-use Rattle.plan.proofs.JobLists.{held, job-listed}
-use Rattle.plan.proofs.Theorems.{written-read}
+use Rattle.plan_laws.proofs.JobLists.{held, job-listed}
+use Rattle.plan_laws.proofs.Theorems.{written-read}
 use Rattle.sequencing.specs.Problem.{Problem}
 use Rattle.sequencing.specs.Orders.{IsOrder, cost}
 use Rattle.sequencing.specs.Recursion.{planCost, planOrder}

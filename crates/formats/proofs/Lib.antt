@@ -1,7 +1,9 @@
 pub mod Verdicts
+pub mod Refusals
 pub mod Formats
 pub mod Telling
 pub mod Numbers
 pub mod Pairs
 pub mod Runs
+pub mod Repeated
 pub mod Messages

@@ -21,7 +21,8 @@ use Rattle.fields.proofs.Codecs.{Bytes}
 use Rattle.fields.proofs.Local.{and-same}
 use Rattle.fields.proofs.Refusing.{Gives, gives-found, gives-judged, gives-then}
 use Rattle.fields.proofs.Openings.{opens-both, opens-bytes}
-use Rattle.formats.proofs.Formats.{Arises, Format, ends}
+use Rattle.formats.proofs.Refusals.{Arises}
+use Rattle.formats.proofs.Formats.{Format, ends}
 
 -- ---- the two ends, decided by the first bytes
 

@@ -21,10 +21,11 @@ use Rattle.fields.proofs.Local.{and-same, number-same}
 use Rattle.fields.proofs.Refusing.{Gives, gives-judged, gives-then, gives-number}
 use Rattle.fields.specs.Messages.{check}
 use Rattle.formats.proofs.Verdicts.{not-accepted, judged-accepts, judged-refuses}
-use Rattle.formats.proofs.Formats.{Arises, Format}
+use Rattle.formats.proofs.Refusals.{Arises}
+use Rattle.formats.proofs.Formats.{Format}
 use Rattle.formats.proofs.Telling.{rejudged}
 
--- any number of at most g groups; a larger one cannot be written: 3
+-- any number of at most g groups, for one that is not judged by itself; a larger one cannot be written: 3
 abbrev pub anyNumber : {Given : Type 0} (g : ℕ) → 0 < g → Format ℕ Given g g []
 anyNumber g h = record {
   read = number g;
@@ -47,7 +48,7 @@ gives-field g ok why s at =
     gives-then (Arises (why ∷ [])) (number g s at) _ (gives-number (Arises (why ∷ [])) (inr (inl refl)) (inr (inr refl)) g s at)
     (λ v n. gives-judged (Arises (why ∷ [])) (ok v) v n why (inl refl))
 
--- a number that passes a test; what passes has at most w groups
+-- a number that passes a test, for one judged as it is read; what passes has at most w groups
 abbrev pub tested : {Given : Type 0} (g : ℕ) (ok : ℕ → Bool) (why : Reason) (w : ℕ) → 0 < g → 0 < w
     → (Given → (v : ℕ) → ok v ≡ true → (v < 128 ^ w) × (v < 128 ^ g)) → Format ℕ Given w g (why ∷ [])
 tested g ok why w h l small = record {
@@ -66,7 +67,7 @@ tested g ok why w h l small = record {
   refuses = λ z s at v rest r _ k e j. let w = judged-refuses (ok v) why r j in rw (number-written g s at v rest h k e, w .0, w .1);
 }
 
--- a number of low to high, in at most w of 3 groups
+-- a number of low to high, in at most w of 3 groups: the test of most fields
 abbrev pub bounded : {Given : Type 0} (low high : ℕ) (why : Reason) (w : ℕ) → 0 < w → (Given → (high < 128 ^ w) × (high < 128 ^ 3)) → Format ℕ Given w 3 (why ∷ [])
 bounded low high why w l h =
     rejudged (tested 3 (within low high) why w (omega arith) l (λ z v e. let b = within-true low high v e in let k = h z in (omega arith, omega arith)))
@@ -84,6 +85,6 @@ bounded low high why w l h =
       judge-is = λ v k. refl;
     })
 
--- .. in one byte
+-- .. in one byte: counts, kinds and places
 abbrev pub oneByte : {Given : Type 0} (low high : ℕ) (why : Reason) → (Given → high < 128) → Format ℕ Given 1 3 (why ∷ [])
 oneByte low high why h = bounded low high why 1 (omega arith) (λ z. let k = h z in (omega arith, omega arith))

@@ -9,15 +9,15 @@ use lib.ListN.{length, take, drop, length-append}
 use Rattle.refusal.specs.declared.Reason.{Reason}
 use Rattle.refusal.specs.declared.Verdict.{Verdict}
 use Rattle.refusal.specs.declared.Verdict.the-variants.{Accepted, Refused}
-use Rattle.number.specs.Readers.{Found, found, refused, Reader, andThen}
+use Rattle.number.specs.Readers.{Found, found, refused, Reader, andThen, _>>=_, _>>_, give}
 use Rattle.number.proofs.Steps.{went-on, found-value, found-next}
 use Rattle.fields.proofs.Codecs.{Bytes, Stand, stand-append, past}
 use Rattle.fields.proofs.Local.{and-same}
 use Rattle.fields.proofs.Refusing.{Gives, gives-found, gives-then}
 use Rattle.fields.specs.Messages.{_before_}
-use Rattle.formats.specs.Steps.{pair}
 use Rattle.formats.proofs.Verdicts.{before-accepts}
-use Rattle.formats.proofs.Formats.{Arises, Format, arises-left, arises-right, ends}
+use Rattle.formats.proofs.Refusals.{Arises, arises-left, arises-right}
+use Rattle.formats.proofs.Formats.{Format, ends}
 
 -- steps may be grouped as one likes
 pub and-assoc : {A B C : Type 0} (f : Found A) (g : A → ℕ → Found B) (h : B → ℕ → Found C) → andThen (andThen f g) h ≡ andThen f (λ a n. andThen (g a n) h)
@@ -27,7 +27,10 @@ and-assoc (refused r) g h = refl
 module _ {A B Given : Type 0} {wideA wideB farA farB : ℕ} {whysA whysB : List Reason}
     (F : Format A Given wideA farA whysA) (G : (a : A) → Format B (Given × F .Ok a) wideB farB whysB) where
   abbrev pub bothRead : Reader (A × B)
-  bothRead = pair (F .read) (λ a. G a .read)
+  bothRead = do
+    a ← F .read
+    b ← G a .read
+    give (a, b)
 
   abbrev pub bothBytes : A × B → List ℕ
   bothBytes p = F .write (p .0) ++ G (p .0) .write (p .1)
@@ -92,6 +95,7 @@ module _ {A B Given : Type 0} {wideA wideB farA farB : ℕ} {whysA whysB : List 
           )
       go (Refused q) a = let same : Refused q ≡ Refused r = rw a at j in rw (F .refuses z s at (p .0) (G (p .0) .write (p .1) ++ rest) r (n .0) (k .0) e₁ (a ∙ same))
 
+  -- two parts, one after the other: for a record, whose later parts depend on its counts
   abbrev pub andNext : Format (A × B) Given (wideA + wideB) (max farA (wideA + farB)) (whysA ++ whysB)
   andNext = record {
     read = bothRead;

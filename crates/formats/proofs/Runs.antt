@@ -1,8 +1,7 @@
 -- Runs: a part so many times, where each time may depend on what the earlier ones found.
 -- Assumes nothing.
-use Prim.Native.Nat.{ℕ, zero, suc, _+_, _-_, _*_, _^_, _<_, _≤_}
+use Prim.Native.Nat.{ℕ, zero, suc, _+_, _-_, _*_, _≤_}
 use mathlib.Core.Path.{_≡_, refl, sym, ap, _∙_, subst₂}
-use mathlib.Core.Bool.{Bool}
 use mathlib.Core.Logic.{_↔_}
 use mathlib.Core.List.{List, [], _∷_, _++_, flatMap, append-assoc}
 use native.Mathlib.Omega.{arith}
@@ -11,29 +10,31 @@ use lib.ListN.{length, take, drop, length-append}
 use Rattle.refusal.specs.declared.Reason.{Reason}
 use Rattle.refusal.specs.declared.Verdict.{Verdict}
 use Rattle.refusal.specs.declared.Verdict.the-variants.{Accepted, Refused}
-use Rattle.number.specs.Readers.{found, refused, Reader, andThen, times}
+use Rattle.number.specs.Readers.{found, refused, Reader, andThen}
 use Rattle.number.proofs.Steps.{went-on, found-value, found-next}
 use Rattle.fields.proofs.Codecs.{Bytes, Stand, All, stand-none, stand-append, past}
 use Rattle.fields.proofs.Local.{and-same}
 use Rattle.fields.proofs.Refusing.{Gives, gives-found, gives-then}
-use Rattle.fields.specs.Fields.{within, all}
-use Rattle.fields.specs.Messages.{check, _before_}
-use Rattle.formats.specs.Verdicts.{inTurn, every}
-use Rattle.formats.specs.Steps.{inOrder}
-use Rattle.formats.proofs.Verdicts.{not-accepted, before-accepts, every-in-turn, every-judged, every-ext}
-use Rattle.formats.proofs.Formats.{Arises, Format, ends}
-use Rattle.formats.proofs.Telling.{retold, rejudged}
-use Rattle.formats.proofs.Numbers.{bounded}
+use Rattle.fields.specs.Messages.{_before_}
+use Rattle.fields.specs.Orders.{inOrder, inTurn}
+use Rattle.formats.proofs.Verdicts.{not-accepted, before-accepts}
+use Rattle.formats.proofs.Refusals.{Arises}
+use Rattle.formats.proofs.Formats.{Format, ends}
+
+-- something holds of each thing in a list, after what the earlier ones left
+abbrev pub InTurn : {S A : Type 0} → (S → A → S) → (S → A → Type 0) → S → List A → Type 0
+InTurn step P state [] = Unit
+InTurn step P state (a ∷ more) = P state a × InTurn step P (step state a) more
+
+-- where the state makes no difference, each of a list
+pub each-all : {S A : Type 0} (step : S → A → S) (state : S) (P : A → Type 0) (xs : List A) → InTurn step (λ _. P) state xs ↔ All P xs
+each-all step state P [] = (λ k. k, λ k. k)
+each-all step state P (a ∷ more) = let rest = each-all step (step state a) P more in (λ k. (k .0, rest .0 (k .1)), λ k. (k .0, rest .1 (k .1)))
 
 -- of numbers any value is sized
 pub all-any : {A : Type 0} (xs : List A) → All (λ a. Unit {0}) xs
 all-any [] = tt
 all-any (a ∷ more) = (tt, all-any more)
-
--- each of a run, by what the earlier ones left
-abbrev pub InTurn : {S A : Type 0} → (S → A → S) → (S → A → Type 0) → S → List A → Type 0
-InTurn step P state [] = Unit
-InTurn step P state (a ∷ more) = P state a × InTurn step P (step state a) more
 
 module _ {S A Given : Type 0} {wide far : ℕ} {whys : List Reason} (one : S → Format A Given wide far whys) (step : S → A → S) where
   abbrev pub runBytes : S → List A → List ℕ
@@ -148,7 +149,7 @@ module _ {S A Given : Type 0} {wide far : ℕ} {whys : List Reason} (one : S →
     pub run-near : (s : List ℕ) (at i : ℕ) → Bytes s → at + (m * wide + (far - wide)) ≤ i → run n state (take i s) at ≡ run n state s at
     run-near s at i y h = run-same z n state s at i y (omega (arith, mul-le-mul {n₁ = n} {m₁ = wide} {n₂ = m} {m₂ = wide} few (omega arith)))
 
-  -- n times, at most m
+  -- n times, at most m: for a run in which each part depends on the earlier ones
   abbrev pub inTurns : (n m : ℕ) → (Given → n ≤ m) → S → Format (List A) Given (m * wide) (m * wide + (far - wide)) whys
   inTurns n m few state = record {
     read = run n state;
@@ -165,59 +166,3 @@ module _ {S A Given : Type 0} {wide far : ℕ} {whys : List Reason} (one : S →
     accepts = λ z xs k. let a = run-accepts z state xs (k .1) in (λ e. (k .0, a .0 e), λ o. a .1 (o .1));
     refuses = λ z s at xs rest r m k e j. run-refuses z n state s at xs rest r (m .0) (m .1) k e j;
   }
-
--- ---- the same part each time
-
--- nothing is kept
-abbrev pub kept : {A : Type 0} → Unit {0} → A → Unit {0}
-kept state a = tt
-
-pub each-all : {A : Type 0} (P : A → Type 0) (xs : List A) → InTurn kept (λ _. P) tt xs ↔ All P xs
-each-all P [] = (λ k. k, λ k. k)
-each-all P (a ∷ more) = (λ k. (k .0, each-all P more .0 (k .1)), λ k. (k .0, each-all P more .1 (k .1)))
-
-module _ {A Given : Type 0} {wide far : ℕ} {whys : List Reason} (F : Format A Given wide far whys) where
-  abbrev pub each : Unit {0} → Format A Given wide far whys
-  each state = F
-
-  pub each-read : (n : ℕ) (s : List ℕ) (at : ℕ) → times n (F .read) s at ≡ run each kept n tt s at
-  unfolding times inOrder
-  each-read zero s at = refl
-  each-read (suc n) s at = and-same (F .read s at) (F .read s at) _ _ refl (λ a i e. and-same (times n (F .read) s i) (run each kept n tt s i) _ _ (each-read n s i) (λ more k f. refl))
-
-  abbrev pub repeated : (n m : ℕ) → (Given → n ≤ m) → Format (List A) Given (m * wide) (m * wide + (far - wide)) whys
-  repeated n m few =
-      rejudged (retold (inTurns each kept n m few tt) (times n (F .read)) (flatMap (F .write)) (each-read n) (run-flat each kept (F .write) (λ _ a. refl) tt))
-      (record {
-        Ok = λ xs. (length xs ≡ n) × All (F .Ok) xs;
-        Sized = λ xs. (length xs ≡ n) × All (F .Sized) xs;
-        judge = every (F .judge);
-        ok-is = λ z xs. (λ k. (k .0, each-all (F .Ok) xs .0 (k .1)), λ k. (k .0, each-all (F .Ok) xs .1 (k .1)));
-        short = λ z xs k. rw (run-flat each kept (F .write) (λ _ a. refl) tt xs) (run-most each kept n m (few z) z tt xs (k .0, each-all (F .Ok) xs .1 (k .1)));
-        accepts = λ z xs k.
-            let a = run-accepts each kept z tt xs (each-all (F .Sized) xs .1 (k .1)) in
-            (λ e. (k .0, each-all (F .Ok) xs .0 (a .0 (every-in-turn (F .judge) xs ∙ e))), λ o. sym (every-in-turn (F .judge) xs) ∙ a .1 (each-all (F .Ok) xs .1 (o .1)));
-        sized-is = λ xs k. (k .0, each-all (F .Sized) xs .1 (k .1));
-        judge-is = λ xs k. sym (every-in-turn (F .judge) xs);
-      })
-
--- .. judged as one: a test of each, and one refusal
-abbrev pub alike : {A Given : Type 0} {wide far : ℕ} {whys : List Reason} (F : Format A Given wide far whys) (ok : A → Bool) (why : Reason) → ((a : A) → F .judge a ≡ check (ok a) why)
-    → (n m : ℕ) → (Given → n ≤ m) → Format (List A) Given (m * wide) (m * wide + (far - wide)) whys
-alike F ok why is n m few =
-    let G = repeated F n m few in
-    rejudged G (record {
-      Ok = G .Ok;
-      Sized = G .Sized;
-      judge = λ xs. check (all ok xs) why;
-      ok-is = λ z xs. (λ k. k, λ k. k);
-      short = G .short;
-      accepts = λ z xs k. rw (← every-judged ok why xs, ← every-ext (F .judge) (λ a. check (ok a) why) xs is) (G .accepts z xs k);
-      sized-is = λ xs k. k;
-      judge-is = λ xs k. sym (every-ext (F .judge) (λ a. check (ok a) why) xs is ∙ every-judged ok why xs);
-    })
-
--- n numbers of low to high
-abbrev pub numbers : {Given : Type 0} (n m : ℕ) → (Given → n ≤ m) → (low high : ℕ) (why : Reason) (w : ℕ) → 0 < w → (Given → (high < 128 ^ w) × (high < 128 ^ 3))
-    → Format (List ℕ) Given (m * w) (m * w + (3 - w)) (why ∷ [])
-numbers n m few low high why w l h = alike (bounded low high why w l h) (within low high) why (λ v. refl) n m few

@@ -1,22 +1,21 @@
--- A format told otherwise: by another reader and writer, by another verdict, as another type, in another edition.
+-- A format told otherwise: by another reader and writer, by another verdict, as another type.
 -- Assumes nothing.
 use Prim.Native.Nat.{ℕ, _≤_}
-use mathlib.Core.Path.{_≡_, refl, sym, ap, _∙_, subst₂}
+use mathlib.Core.Path.{_≡_, sym, ap, _∙_, subst₂}
 use mathlib.Core.Logic.{_↔_}
-use mathlib.Core.List.{List, []}
-use native.Mathlib.Omega.{arith}
-use lib.ListN.{length, take, drop}
+use mathlib.Core.List.{List}
+use lib.ListN.{length, take}
 use Rattle.refusal.specs.declared.Reason.{Reason}
 use Rattle.refusal.specs.declared.Verdict.{Verdict}
 use Rattle.refusal.specs.declared.Verdict.the-variants.{Accepted}
-use Rattle.number.specs.Readers.{found, Reader, andThen, give}
+use Rattle.number.specs.Readers.{found, Reader, andThen}
 use Rattle.number.proofs.Steps.{went-on, found-value, found-next}
 use Rattle.fields.proofs.Codecs.{Stand}
 use Rattle.fields.proofs.Refusing.{gives-found, gives-then}
-use Rattle.formats.proofs.Verdicts.{not-accepted}
-use Rattle.formats.proofs.Formats.{Arises, Format}
+use Rattle.formats.proofs.Refusals.{Arises}
+use Rattle.formats.proofs.Formats.{Format}
 
--- a reader and a writer written otherwise
+-- the same format by a reader and a writer that are written otherwise: for the definitions that a reader must believe
 abbrev pub retold : {A Given : Type 0} {wide far : ℕ} {whys : List Reason} (F : Format A Given wide far whys) (read : Reader A) (write : A → List ℕ)
     → ((s : List ℕ) (at : ℕ) → read s at ≡ F .read s at) → ((a : A) → write a ≡ F .write a) → Format A Given wide far whys
 retold F read write read-is write-is = record {
@@ -35,7 +34,7 @@ retold F read write read-is write-is = record {
   refuses = λ z s at a rest r n k e j. read-is s at ∙ F .refuses z s at a rest r n k (rw (write-is a) at e) j;
 }
 
--- the same values, with their bounds and their verdict said otherwise
+-- the same bytes, with the bounds on a value and its verdict said otherwise: for what 01 says of a part as a whole
 pub record Rejudging {A Given : Type 0} {wide far : ℕ} {whys : List Reason} (F : Format A Given wide far whys) (wide′ : ℕ) : Type 1 where
   pub Ok : A → Type 0
   pub Sized : A → Type 0
@@ -63,7 +62,7 @@ rejudged F R = record {
   refuses = λ z s at a rest r n k e j. F .refuses z s at a rest r (R .sized-is a n) k e (sym (R .judge-is a k) ∙ j);
 }
 
--- the same as another type's values
+-- the same bytes as the values of another type: for parts that stand in a record
 abbrev pub mapped : {A B Given : Type 0} {wide far : ℕ} {whys : List Reason} (F : Format A Given wide far whys) (make : A → B) (view : B → A)
     → ((a : A) → view (make a) ≡ a) → ((b : B) → make (view b) ≡ b) → Format B Given wide far whys
 mapped {whys} F make view there back = record {
@@ -83,41 +82,4 @@ mapped {whys} F make view there back = record {
   gives = λ s at. gives-then (Arises whys) (F .read s at) _ (F .gives s at) (λ a n. gives-found (Arises whys) (make a) n);
   accepts = λ z b n. F .accepts z (view b) n;
   refuses = λ z s at b rest r n k e j. rw (F .refuses z s at (view b) rest r n k e j);
-}
-
--- nothing is written, and what stands for it is known
-abbrev pub absent : {A Given : Type 0} (a : A) → Format A Given 0 0 []
-absent a = record {
-  read = give a;
-  write = λ b. [];
-  Ok = λ b. b ≡ a;
-  Sized = λ b. b ≡ a;
-  Small = λ b. Unit;
-  judge = λ b. Accepted;
-  reads = λ z s at b n y e. (record { here = ap (λ (m : ℕ). drop m s) (found-next a b at n e); next = omega (arith, found-next a b at n e) }, sym (found-value a b at n e));
-  writes = λ z s at b rest k e. rw k (ap (found a) (omega arith));
-  short = λ z b k. omega arith;
-  same = λ z s at m y h. refl;
-  gives = λ s at. gives-found (Arises []) a at;
-  accepts = λ z b n. (λ e. n, λ k. refl);
-  refuses = λ z s at b rest r n k e j. not-accepted r (sym j);
-}
-
--- a format that is to stand beside a longer one, as of another edition
-abbrev pub widened : {A Given : Type 0} {wide far wide′ far′ : ℕ} {whys whys′ : List Reason} (F : Format A Given wide far whys) → wide ≤ wide′ → far ≤ far′
-    → ((r : Reason) → Arises whys r → Arises whys′ r) → Format A Given wide′ far′ whys′
-widened F w f more = record {
-  read = F .read;
-  write = F .write;
-  Ok = F .Ok;
-  Sized = F .Sized;
-  Small = F .Small;
-  judge = F .judge;
-  reads = F .reads;
-  writes = F .writes;
-  short = λ z a k. omega (arith, F .short z a k);
-  same = λ z s at m y h. F .same z s at m y (omega arith);
-  gives = λ s at r e. more r (F .gives s at r e);
-  accepts = F .accepts;
-  refuses = F .refuses;
 }

@@ -1,7 +1,7 @@
--- When verdicts accept, and the two ways to write a verdict on a list.
+-- When verdicts accept and refuse: of one check, of one part before another, of a list.
 -- Assumes nothing.
 use Prim.Native.Nat.{ℕ}
-use mathlib.Core.Path.{_≡_, refl, sym, ap}
+use mathlib.Core.Path.{_≡_, refl, sym}
 use mathlib.Core.Bool.{Bool, true, false}
 use mathlib.Core.Logic.{_↔_, inl, inr}
 use mathlib.Core.List.{List, [], _∷_}
@@ -10,9 +10,8 @@ use Rattle.refusal.specs.declared.Reason.{Reason}
 use Rattle.refusal.specs.declared.Verdict.{Verdict}
 use Rattle.refusal.specs.declared.Verdict.the-variants.{Accepted, Refused}
 use Rattle.number.proofs.Steps.{bool-cases}
-use Rattle.fields.specs.Fields.{all}
 use Rattle.fields.specs.Messages.{check, _before_}
-use Rattle.formats.specs.Verdicts.{inTurn, every}
+use Rattle.fields.specs.Orders.{allInOrder, inTurn}
 
 pub not-accepted : {A : Type 0} (r : Reason) → Refused r ≡ Accepted → A
 not-accepted r e = let z : _≡_ {A = ℕ} 0 1 = cc in absurd (omega arith)
@@ -33,21 +32,12 @@ pub before-assoc : (u v w : Verdict) → (u before v) before w ≡ u before (v b
 before-assoc Accepted v w = refl
 before-assoc (Refused r) v w = refl
 
--- ---- lists
-
--- each judged by itself is a run that keeps nothing
-pub every-in-turn : {A : Type 0} (judge : A → Verdict) (xs : List A) → inTurn (λ (_ : Unit {0}). judge) (λ _ _. tt) tt xs ≡ every judge xs
-unfolding inTurn every
-every-in-turn judge [] = refl
-every-in-turn judge (a ∷ more) = ap (λ (v : Verdict). judge a before v) (every-in-turn judge more)
-
-pub every-ext : {A : Type 0} (judge judge′ : A → Verdict) (xs : List A) → ((a : A) → judge a ≡ judge′ a) → every judge xs ≡ every judge′ xs
-unfolding every
-every-ext judge judge′ [] h = refl
-every-ext judge judge′ (a ∷ more) h = rw (h a, every-ext judge judge′ more h)
-
--- one refusal for all of a list
-pub every-judged : {A : Type 0} (ok : A → Bool) (why : Reason) (xs : List A) → every (λ a. check (ok a) why) xs ≡ check (all ok xs) why
-unfolding every all
-every-judged ok why [] = refl
-every-judged ok why (a ∷ more) = elim (bool-cases (ok a)) [ inl e ↦ rw e (every-judged ok why more) | inr e ↦ rw e ]
+-- a list in which each thing is tested after what the earlier ones left, with one refusal for all
+pub in-turn-tested : {S A : Type 0} (judge : S → A → Verdict) (ok : S → A → Bool) (why : Reason) (step : S → A → S) → ((state : S) (a : A) → judge state a ≡ check (ok state a) why)
+    → (state : S) (xs : List A) → inTurn judge step state xs ≡ check (allInOrder ok step state xs) why
+unfolding inTurn allInOrder
+in-turn-tested judge ok why step is state [] = refl
+in-turn-tested judge ok why step is state (a ∷ more) = elim (bool-cases (ok state a)) [
+  | inl e ↦ rw (is state a, e) (in-turn-tested judge ok why step is (step state a) more)
+  | inr e ↦ rw (is state a, e)
+]

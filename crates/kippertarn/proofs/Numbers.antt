@@ -12,7 +12,7 @@ use Rattle.refusal.specs.Answers.{verdictNumber}
 use Rattle.queue.specs.Reading.{readQueue}
 use Rattle.queue_laws.proofs.Theorems.{queue-refusal, queue-refusal-needed}
 use Rattle.plan.specs.Reading.{readPlan}
-use Rattle.plan.proofs.Refusals.{plan-refusal, plan-refusal-needed}
+use Rattle.plan_laws.proofs.Refusals.{plan-refusal, plan-refusal-needed}
 use Rattle.best_order.proofs.Answers.{reason-range}
 
 verdict-fits : (v : Verdict) → ((r : Reason) → v ≡ Refused r → needed r ≡ 0) → verdictNumber v < 2 ^ 64

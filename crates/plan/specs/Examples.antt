@@ -9,9 +9,10 @@ use Rattle.number.specs.Readers.{refused}
 use Rattle.number.specs.Numbers.{groupsAt, groups, encode}
 use Rattle.fields.specs.Lists.{tabulate, standsIn}
 use Rattle.fields.specs.Messages.{opens}
+use Rattle.fields.specs.Orders.{inOrder, allInOrder}
 use Rattle.plan.specs.declared.Plan.{Plan}
-use Rattle.plan.specs.Reading.{order, plan, planOf, asReading, readPlan}
-use Rattle.plan.specs.Writing.{message, allFresh, judge, writePlan}
+use Rattle.plan.specs.Reading.{plan, planOf, asReading, readPlan}
+use Rattle.plan.specs.Writing.{message, judge, writePlan}
 
 -- case A
 abbrev bytesA : List ℕ
@@ -67,7 +68,7 @@ Examples =
     × (writePlan (planOf 1 70 7 2 (1 ∷ 1 ∷ [])) 76 ≡ NotWritten Job)
 
 pub examples : Examples
-unfolding groupsAt groups encode opens tabulate flatMap standsIn order plan readPlan message allFresh judge writePlan
+unfolding groupsAt groups encode opens tabulate flatMap standsIn inOrder allInOrder plan readPlan message judge writePlan
 examples = (
   refl,
   refl,

@@ -1,22 +1,21 @@
 -- Reading a plan message: 01's checks, one step a row of its table, in message order.
-use Prim.Native.Nat.{ℕ, zero, suc}
-use mathlib.Core.List.{List, [], _∷_, _++_}
+use Prim.Native.Nat.{ℕ}
+use mathlib.Core.List.{List, []}
 use Rattle.refusal.specs.declared.Reason.the-variants.{Edition, Goal, Jobs, Job}
 use Rattle.refusal.specs.declared.Verdict.the-variants.{Accepted, Refused}
-use Rattle.number.specs.Readers.{Found, found, refused, Reader, andThen, _>>=_, _>>_, give}
+use Rattle.number.specs.Readers.{Found, found, refused, Reader, _>>=_, _>>_, give}
 use Rattle.number.specs.Numbers.{number}
 use Rattle.fields.specs.Fields.{field, within}
 use Rattle.fields.specs.Lists.{filled}
 use Rattle.fields.specs.Messages.{opening, end}
+use Rattle.fields.specs.Orders.{inOrder, followedBy}
 use Rattle.plan.specs.declared.Plan.{Plan}
 use Rattle.plan.specs.declared.Reading.{Reading}
 use Rattle.plan.specs.Record.{fresh, jobList}
 
--- the jobs at n places, after the earlier ones
-unfoldable pub order : ℕ → ℕ → List ℕ → Reader (List ℕ)
-order t zero earlier s at = found [] at
-order t (suc n) earlier s at =
-    andThen (field 3 (fresh t earlier) Job s at) (λ j i. andThen (order t n (earlier ++ (j ∷ [])) s i) (λ more k. found (j ∷ more) k))
+-- the job at each place, 1 to T, each judged after those at the earlier places
+abbrev pub order : ℕ → Reader (List ℕ)
+order t = inOrder (λ earlier. field 3 (fresh t earlier) Job) followedBy t []
 
 -- the record with these numbers and these jobs, and 0 past them
 abbrev pub planOf : ℕ → ℕ → ℕ → ℕ → List ℕ → Plan
@@ -35,7 +34,7 @@ plan = do
   cost ← number 6
   states ← number 6
   t ← field 3 (within 0 60) Jobs
-  jobs ← order t t []
+  jobs ← order t
   end
   give (planOf goal cost states t jobs)
 

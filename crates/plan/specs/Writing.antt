@@ -1,6 +1,6 @@
 -- Writing a plan message.
 use Prim.Native.Nat.{ℕ, _-_, _^_}
-use mathlib.Core.Bool.{Bool, true, _&&_}
+use mathlib.Core.Bool.{Bool}
 use mathlib.Core.List.{List, [], _∷_, _++_}
 use lib.ListN.{length}
 use Rattle.refusal.specs.declared.Reason.the-variants.{Groups, Goal, Jobs, Job}
@@ -9,6 +9,7 @@ use Rattle.refusal.specs.declared.Written.{Written}
 use Rattle.number.specs.Numbers.{encode}
 use Rattle.fields.specs.Fields.{within, encodeAll}
 use Rattle.fields.specs.Messages.{check, _before_, writeAnswer, bufferAfter}
+use Rattle.fields.specs.Orders.{allInOrder, followedBy}
 use Rattle.plan.specs.declared.Plan.{Plan}
 use Rattle.plan.specs.Record.{fresh, jobList}
 
@@ -18,10 +19,9 @@ message p =
     (0x51 ∷ 0x50 ∷ []) ++ encode 1 ++ encode (p .goal) ++ encode (p .cost) ++ encode (p .«feasible_states») ++ encode (p .jobs)
     ++ encodeAll (jobList p)
 
--- each job is fresh at its place, after the earlier ones
-unfoldable pub allFresh : ℕ → List ℕ → List ℕ → Bool
-allFresh t earlier [] = true
-allFresh t earlier (j ∷ js) = fresh t earlier j && allFresh t (earlier ++ (j ∷ [])) js
+-- each job is fresh at its place, after those at the earlier places
+abbrev pub allFresh : ℕ → List ℕ → Bool
+allFresh t jobs = allInOrder (fresh t) followedBy [] jobs
 
 -- the record judged in message order: 6, 3 for a cost or count above 2^42 − 1, 12, 18
 unfoldable pub judge : Plan → Verdict
@@ -30,7 +30,7 @@ judge p =
     before check (within 0 (2 ^ 42 - 1) (p .cost)) Groups
     before check (within 0 (2 ^ 42 - 1) (p .«feasible_states»)) Groups
     before check (within 0 60 (p .jobs)) Jobs
-    before check (allFresh (p .jobs) [] (jobList p)) Job
+    before check (allFresh (p .jobs) (jobList p)) Job
 
 -- a buffer of at least 77 bytes is asked
 unfoldable pub writePlan : Plan → ℕ → Written

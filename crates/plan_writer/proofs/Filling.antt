@@ -13,7 +13,7 @@ use Rattle.fields.proofs.Parts.{sets-append}
 use Rattle.plan.specs.declared.Plan.{Plan}
 use Rattle.plan.specs.Record.{jobList}
 use Rattle.plan.specs.Writing.{message}
-use Rattle.plan.proofs.JobLists.{job-list-part}
+use Rattle.plan_laws.proofs.JobLists.{job-list-part}
 use Rattle.plan_writer.specs.Fronts.{frontBytes}
 
 -- these bytes were written, up to position i

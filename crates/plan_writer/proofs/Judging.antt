@@ -12,7 +12,7 @@ use Rattle.fields.specs.Messages.{check}
 use Rattle.fields.proofs.Judged.{low-out, high-out, true-within}
 use Rattle.plan.specs.declared.Plan.{Plan}
 use Rattle.plan.specs.Writing.{allFresh, judge}
-use Rattle.plan.proofs.JobLists.{job-list-part}
+use Rattle.plan_laws.proofs.JobLists.{job-list-part}
 
 module _ (p : Plan) where
   pub judge-low : p .goal < 1 → Refused Goal ≡ judge p

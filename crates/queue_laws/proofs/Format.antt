@@ -20,7 +20,7 @@ use Rattle.formats.proofs.Formats.{Format}
 use Rattle.formats.proofs.Telling.{rejudged, mapped}
 use Rattle.formats.proofs.Numbers.{anyNumber, tested, oneByte}
 use Rattle.formats.proofs.Pairs.{andNext}
-use Rattle.formats.proofs.Runs.{alike, numbers}
+use Rattle.formats.proofs.Repeated.{alike, numbers}
 
 -- N, goal, m, s
 abbrev settingsParts : {Given : Type 0} → Format (ℕ × (ℕ × (ℕ × ℕ))) Given 4 6 (Kinds ∷ Goal ∷ Shift ∷ Start ∷ [])

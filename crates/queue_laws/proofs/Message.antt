@@ -20,7 +20,8 @@ use Rattle.fields.specs.Fields.{encodeAll}
 use Rattle.queue.specs.Writing.{encodeWindow, headBytes, jobBytes, message, judgeSettings, judgeTables, judgeHead, judgeJobs, judge}
 use Rattle.formats.proofs.Verdicts.{before-assoc}
 use Rattle.formats.proofs.Pairs.{and-assoc}
-use Rattle.formats.proofs.Runs.{InTurn, kept, each-all, all-any}
+use Rattle.fields.proofs.Orders.{kept}
+use Rattle.formats.proofs.Runs.{InTurn, each-all, all-any}
 use Rattle.formats.proofs.Messages.{Message, Tied, whole, laws}
 use Rattle.queue_laws.proofs.GapRows.{rows-back}
 use Rattle.queue_laws.proofs.Format.{WindowOk, settingsFormat, Parts, settingsOf, rowsOf, weightsOf, windowsOf, jobsOf, kindsOf, queueFormat}
@@ -161,17 +162,17 @@ module _ (q : Queue) where
   -- numbers of at most three groups
   fits-small : Fits q → queueFormat .Small (view q)
   fits-small f =
-      let each : (xs : List ℕ) → All (λ v. v < 2 ^ 21) xs → InTurn kept (λ _ v. v < 2 ^ 21) tt xs = λ xs. each-all (λ v. v < 2 ^ 21) xs .1 in (
+      let each : (xs : List ℕ) → All (λ v. v < 2 ^ 21) xs → InTurn kept (λ _ v. v < 2 ^ 21) tt xs = λ xs. each-all kept tt (λ v. v < 2 ^ 21) xs .1 in (
         omega arith,
         (
           (f .kinds, (f .goal, (f .shift, f .start))),
           (
             (
-              each-all (λ r. InTurn kept (λ _ v. v < 2 ^ 21) tt r) (rows q) .1
+              each-all kept tt (λ r. InTurn kept (λ _ v. v < 2 ^ 21) tt r) (rows q) .1
                   (all-tabulate row _ 0 (q .kinds + 1) (λ i a b. each (row i) (all-tabulate (gap q i) _ 1 (q .kinds) (λ j c d. f .gaps i j (omega arith) c (omega arith))))),
               (
                 each (weightList q) (all-tabulate (weight q) _ 1 (q .kinds) (λ j a b. f .weights j a (omega arith))),
-                each-all (λ (w : ℕ × ℕ). (w .0 < 2 ^ 21) × (w .1 < 2 ^ 21)) (windows q) .1 (all-tabulate places _ 1 (q .kinds) (λ j a b. f .places j a (omega arith))),
+                each-all kept tt (λ (w : ℕ × ℕ). (w .0 < 2 ^ 21) × (w .1 < 2 ^ 21)) (windows q) .1 (all-tabulate places _ 1 (q .kinds) (λ j a b. f .places j a (omega arith))),
               ),
             ),
             (f .jobs, each (kindList q) (all-tabulate (kind q) _ 1 (q .jobs) (λ i a b. f .kinds-of-jobs i a (omega arith)))),

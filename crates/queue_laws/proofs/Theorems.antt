@@ -17,7 +17,7 @@ use Rattle.queue.specs.Record.{Valid, Fits}
 use Rattle.queue.specs.Reading.{queue, accepted, asReading, readQueue, cleared}
 use Rattle.queue.specs.Writing.{message, judge}
 use Rattle.queue.specs.Refusals.{QueueRefusal, on-opening, on-ends, on-malformed, on-edition, on-kinds, on-goal, on-shift, on-start, on-gap, on-pupils, on-places, on-jobs, on-kind, on-left-over}
-use Rattle.formats.proofs.Formats.{arises-in}
+use Rattle.formats.proofs.Refusals.{arises-in}
 use Rattle.queue_laws.proofs.Message.{queueRefusals, queue-message}
 
 -- ---- what a reading says of what was found

@@ -4,8 +4,8 @@ use mathlib.Core.Path.{_≡_, sym, _∙_}
 use native.Mathlib.Omega.{arith}
 use Rattle.refusal.specs.declared.Verdict.the-variants.{Accepted}
 use Rattle.plan.specs.Writing.{judge}
-use Rattle.plan.proofs.Theorems.{judged-valid}
-use Rattle.plan.proofs.Theorems.{message-length}
+use Rattle.plan_laws.proofs.Theorems.{judged-valid}
+use Rattle.plan_laws.proofs.Theorems.{message-length}
 use Rattle.plan_writer.proofs.Answering.{answer-refused, answer-short, answer-written}
 use borrow.Author.Needs.{needs}
 use Rattle.plan_writer.proofs.write_plan.Statement.{statement}

@@ -1,9 +1,9 @@
 -- The plan message as one format; the definitions say it, so the laws of formats hold of them.
 -- Assumes nothing.
-use Prim.Native.Nat.{ℕ, zero, suc, _-_, _^_, _<_, _≤_}
+use Prim.Native.Nat.{ℕ, _-_, _^_, _<_, _≤_}
 use mathlib.Core.Path.{_≡_, refl, sym, _∙_}
 use mathlib.Core.Bool.{true, not}
-use mathlib.Core.Logic.{_↔_, inl, inr}
+use mathlib.Core.Logic.{_↔_}
 use mathlib.Core.List.{List, [], _∷_, _++_, append-assoc}
 use native.Mathlib.Omega.{arith}
 use lib.ListN.{length}
@@ -11,30 +11,25 @@ use borrow.Author.Tests.{lt-ltb}
 use Rattle.refusal.specs.declared.Reason.{Reason}
 use Rattle.refusal.specs.declared.Reason.the-variants.{Groups, Edition, Goal, Jobs, Job, Opening, LeftOver}
 use Rattle.number.specs.Numbers.{encode}
-use Rattle.number.proofs.Steps.{bool-cases}
-use Rattle.fields.specs.Fields.{field, within, encodeAll}
+use Rattle.fields.specs.Fields.{within, encodeAll}
 use Rattle.fields.specs.Lists.{standsIn}
 use Rattle.fields.specs.Messages.{check}
+use Rattle.fields.specs.Orders.{followedBy}
 use Rattle.fields.proofs.Judged.{and-true, within-true, true-within}
-use Rattle.fields.proofs.Codecs.{All}
 use Rattle.fields.proofs.Tables.{all-tabulate}
-use Rattle.fields.proofs.Local.{and-same}
 use Rattle.plan.specs.declared.Plan.{Plan}
 use Rattle.plan.specs.Record.{fresh, job, jobList, Valid}
 use Rattle.plan.specs.Reading.{order, plan, planOf, cleared}
 use Rattle.plan.specs.Writing.{message, allFresh, judge}
-use Rattle.plan.proofs.JobLists.{held, job-list-length}
-use Rattle.plan.proofs.Judging.{valid-bounded, bounded-valid}
-use Rattle.fields.specs.Messages.{check}
-use Rattle.formats.specs.Verdicts.{inTurn}
-use Rattle.formats.specs.Steps.{inOrder}
-use Rattle.formats.proofs.Verdicts.{judged-accepts}
+use Rattle.formats.proofs.Verdicts.{judged-accepts, in-turn-tested}
 use Rattle.formats.proofs.Formats.{Format}
 use Rattle.formats.proofs.Telling.{retold, rejudged}
 use Rattle.formats.proofs.Numbers.{anyNumber, tested, oneByte}
 use Rattle.formats.proofs.Pairs.{andNext, and-assoc}
-use Rattle.formats.proofs.Runs.{InTurn, inTurns, RunSized, run-flat}
+use Rattle.formats.proofs.Runs.{each-all, all-any, inTurns, run-flat}
 use Rattle.formats.proofs.Messages.{Message, Tied, whole, laws}
+use Rattle.plan_laws.proofs.JobLists.{held, job-list-length}
+use Rattle.plan_laws.proofs.Judging.{valid-bounded, bounded-valid}
 
 -- ---- the job at each place
 
@@ -42,51 +37,24 @@ abbrev freshFormat : {Given : Type 0} (t : ℕ) → (Given → t ≤ 60) → Lis
 freshFormat t few earlier = tested 3 (fresh t earlier) Job 1 (omega arith) (omega arith)
     (λ z j e. let k = few z in let b = within-true 1 t j (and-true (within 1 t j) (not (standsIn j earlier)) e .0) in (omega arith, omega arith))
 
-abbrev later : List ℕ → ℕ → List ℕ
-later earlier j = earlier ++ (j ∷ [])
-
-order-is : (t n : ℕ) (earlier s : List ℕ) (at : ℕ) → order t n earlier s at ≡ inOrder (λ earlier. field 3 (fresh t earlier) Job) later n earlier s at
-unfolding order inOrder
-order-is t zero earlier s at = refl
-order-is t (suc n) earlier s at =
-    and-same (field 3 (fresh t earlier) Job s at) (field 3 (fresh t earlier) Job s at) _ _ refl
-    (λ j i e. and-same (order t n (later earlier j) s i) _ _ _ (order-is t n (later earlier j) s i) (λ more k f. refl))
-
-verdict-is : (t : ℕ) (earlier js : List ℕ) → inTurn (λ earlier j. check (fresh t earlier j) Job) later earlier js ≡ check (allFresh t earlier js) Job
-unfolding inTurn allFresh
-verdict-is t earlier [] = refl
-verdict-is t earlier (j ∷ js) = elim (bool-cases (fresh t earlier j)) [ inl e ↦ rw e (verdict-is t (later earlier j) js) | inr e ↦ rw e ]
-
-sized-run : {Given : Type 0} (t : ℕ) (few : Given → t ≤ 60) (earlier js : List ℕ) → RunSized (freshFormat t few) later earlier js
-sized-run t few earlier [] = tt
-sized-run t few earlier (j ∷ js) = (tt, sized-run t few (later earlier j) js)
-
--- at most t of them, each fresh
-abbrev ListOk : ℕ → List ℕ → Type 0
-ListOk t js = (length js ≡ t) × (allFresh t [] js ≡ true)
-
-module _ {Given : Type 0} (t : ℕ) (few : Given → t ≤ 60) (z : Given) (js : List ℕ) where
-  abbrev theRun : Format (List ℕ) Given 60 62 (Job ∷ [])
-  theRun = inTurns (freshFormat t few) later t 60 few []
-
-  order-ok : theRun .Ok js ↔ ListOk t js
-  order-ok = (
-    λ k. (k .0, judged-accepts (allFresh t [] js) Job .0 (sym (verdict-is t [] js) ∙ theRun .accepts z js (k .0, sized-run t few [] js) .1 k)),
-    λ k. theRun .accepts z js (k .0, sized-run t few [] js) .0 (verdict-is t [] js ∙ judged-accepts (allFresh t [] js) Job .1 (k .1)),
-  )
-
+-- T of them, each fresh after the earlier ones
 abbrev orderFormat : {Given : Type 0} (t : ℕ) → (Given → t ≤ 60) → Format (List ℕ) Given 60 62 (Job ∷ [])
 orderFormat t few =
-    let F = retold (inTurns (freshFormat t few) later t 60 few []) (order t t []) encodeAll (order-is t t []) (run-flat (freshFormat t few) later encode (λ earlier j. refl) []) in
+    let F = retold (inTurns (freshFormat t few) followedBy t 60 few []) (order t) encodeAll (λ s at. refl) (run-flat (freshFormat t few) followedBy encode (λ earlier j. refl) []) in
+    let fresh-is : (js : List ℕ) → F .judge js ≡ check (allFresh t js) Job = in-turn-tested (λ earlier j. check (fresh t earlier j) Job) (fresh t) Job followedBy (λ earlier j. refl) [] in
+    let ok-is : (z : _) (js : List ℕ) → F .Ok js ↔ ((length js ≡ t) × (allFresh t js ≡ true)) = λ z js. (
+      λ k. (k .0, judged-accepts (allFresh t js) Job .0 (sym (fresh-is js) ∙ F .accepts z js (k .0, each-all followedBy [] (λ j. Unit) js .1 (all-any js)) .1 k)),
+      λ k. F .accepts z js (k .0, each-all followedBy [] (λ j. Unit) js .1 (all-any js)) .0 (fresh-is js ∙ judged-accepts (allFresh t js) Job .1 (k .1)),
+    ) in
     rejudged F (record {
-      Ok = ListOk t;
+      Ok = λ js. (length js ≡ t) × (allFresh t js ≡ true);
       Sized = λ js. length js ≡ t;
-      judge = λ js. check (allFresh t [] js) Job;
-      ok-is = λ z js. order-ok t few z js;
-      short = λ z js k. F .short z js (order-ok t few z js .1 k);
-      accepts = λ z js n. (λ e. (n, judged-accepts (allFresh t [] js) Job .0 e), λ k. judged-accepts (allFresh t [] js) Job .1 (k .1));
-      sized-is = λ js n. (n, sized-run t few [] js);
-      judge-is = λ js k. sym (verdict-is t [] js);
+      judge = λ js. check (allFresh t js) Job;
+      ok-is = ok-is;
+      short = λ z js k. F .short z js (ok-is z js .1 k);
+      accepts = λ z js n. (λ e. (n, judged-accepts (allFresh t js) Job .0 e), λ k. judged-accepts (allFresh t js) Job .1 (k .1));
+      sized-is = λ js n. (n, each-all followedBy [] (λ j. Unit) js .1 (all-any js));
+      judge-is = λ js k. sym (fresh-is js);
     })
 
 -- ---- the whole message
@@ -159,10 +127,6 @@ pub record Fits (p : Plan) : Type 0 where
   pub jobs : p .jobs < 2 ^ 21
   pub order : (place : ℕ) → 1 ≤ place → place ≤ p .jobs → job p place < 2 ^ 21
 
-small-run : (earlier js : List ℕ) → All (λ j. j < 2 ^ 21) js → InTurn later (λ _ j. j < 2 ^ 21) earlier js
-small-run earlier [] k = tt
-small-run earlier (j ∷ js) k = (k .0, small-run (later earlier j) js (k .1))
-
 tied : Tied 0x51 0x50 planFormat make view plan message Valid Fits judge cleared
 tied = record {
   read-is = read-is;
@@ -171,7 +135,7 @@ tied = record {
     λ k. bounded-valid p (record { goals = k .1 .0; costs = k .1 .1 .0; counts = k .1 .1 .1 .0; few = k .1 .1 .1 .1 .0 .1; each = k .1 .1 .1 .1 .1 .1 }),
     λ v. let b = valid-bounded p v in ((omega arith, omega arith), (b .goals, (b .costs, (b .counts, ((omega arith, b .few), (job-list-length p, b .each)))))),
   );
-  fits-is = λ p f. (omega arith, (f .goal, (f .cost, (f .states, (f .jobs, small-run [] (jobList p) (all-tabulate (job p) _ 1 (p .jobs) (λ k a b. f .order k a (omega arith))))))));
+  fits-is = λ p f. (omega arith, (f .goal, (f .cost, (f .states, (f .jobs, each-all followedBy [] (λ j. j < 2 ^ 21) (jobList p) .1 (all-tabulate (job p) _ 1 (p .jobs) (λ k a b. f .order k a (omega arith))))))));
   judge-is = judge-is;
   cleared-is = λ p. refl;
   sized = λ p. (tt, (tt, (tt, (tt, (tt, job-list-length p)))));

@@ -3,7 +3,7 @@
 use Prim.Native.Nat.{ℕ, _+_, _-_, _^_, _<_, _≤_}
 use mathlib.Core.Path.{_≡_, sym, ap, _∙_}
 use mathlib.Core.Bool.{true, false}
-use mathlib.Core.List.{List, []}
+use mathlib.Core.List.{List}
 use native.Mathlib.Omega.{arith}
 use lib.ListN.{length, getD, take}
 use lib.Seq.{getD-take, length-take-le}
@@ -11,11 +11,11 @@ use borrow.Author.Tests.{not-true}
 use Rattle.fields.specs.Fields.{within}
 use Rattle.fields.proofs.Judged.{and-true, within-true, true-within}
 use Rattle.fields.specs.Lists.{standsIn}
 use Rattle.plan.specs.declared.Plan.{Plan}
 use Rattle.plan.specs.Record.{fresh, job, jobList, Valid}
 use Rattle.plan.specs.Writing.{allFresh}
-use Rattle.plan.proofs.Fresh.{stands-nowhere, nowhere-stands, fresh-places, places-fresh}
-use Rattle.plan.proofs.JobLists.{job-listed, job-list-length}
+use Rattle.plan_laws.proofs.Fresh.{stands-nowhere, nowhere-stands, fresh-places, places-fresh}
+use Rattle.plan_laws.proofs.JobLists.{job-listed, job-list-length}
 
 -- 01's bounds on a plan's numbers and its list of jobs
 pub record Bounded (goal cost states t : ℕ) (js : List ℕ) : Type 0 where
@@ -23,7 +23,7 @@ pub record Bounded (goal cost states t : ℕ) (js : List ℕ) : Type 0 where
   pub costs : cost < 2 ^ 42
   pub counts : states < 2 ^ 42
   pub few : t ≤ 60
-  pub each : allFresh t [] js ≡ true
+  pub each : allFresh t js ≡ true
 
 module _ (p : Plan) where
   abbrev t : ℕ
@@ -41,7 +41,7 @@ module _ (p : Plan) where
     costs = v .cost;
     counts = v .states;
     few = v .jobs;
-    each = places-fresh t [] js (λ i h.
+    each = places-fresh t js (λ i h.
         let u : i < t = omega (arith, job-list-length p) in
         let r = v .in-range (i + 1) (omega arith) (omega arith) in
         let here = same-place i u in
@@ -55,7 +55,7 @@ module _ (p : Plan) where
   pub bounded-valid : Bounded (p .goal) (p .cost) (p .«feasible_states») (p .jobs) (jobList p) → Valid p
   bounded-valid b =
       let size = job-list-length p in
-      let fresh-at : (i : ℕ) → i < t → fresh t (take i js) (getD js i 0) ≡ true = λ i h. fresh-places t [] js i (b .each) (omega arith) in
+      let fresh-at : (i : ℕ) → i < t → fresh t (take i js) (getD js i 0) ≡ true = λ i h. fresh-places t js (b .each) i (omega arith) in
       record {
         goal = b .goals;
         cost = b .costs;

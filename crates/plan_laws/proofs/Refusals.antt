@@ -8,11 +8,11 @@ use Rattle.refusal.specs.declared.Reason.{Reason}
 use Rattle.refusal.specs.declared.Verdict.the-variants.{Refused}
 use Rattle.refusal.specs.Reasons.{needed}
 use Rattle.number.specs.Readers.{Found, found, refused}
 use Rattle.plan.specs.declared.Plan.{Plan}
 use Rattle.plan.specs.Reading.{plan, asReading, readPlan}
 use Rattle.plan.specs.Refusals.{PlanRefusal, on-opening, on-ends, on-malformed, on-edition, on-goal, on-jobs, on-job, on-trailing}
-use Rattle.formats.proofs.Formats.{arises-in}
-use Rattle.plan.proofs.Format.{planRefusals, plan-message}
+use Rattle.formats.proofs.Refusals.{arises-in}
+use Rattle.plan_laws.proofs.Format.{planRefusals, plan-message}
 
 refused-as : (f : Found Plan) (r : Reason) → asReading f .verdict ≡ Refused r → f ≡ refused r
 refused-as (found p n) r e = let z : _≡_ {A = ℕ} 0 1 = cc in absurd (omega arith)

@@ -17,13 +17,13 @@ use Rattle.number.specs.Readers.{Found, found, refused}
 use Rattle.number.proofs.Steps.{below-or-not}
 use Rattle.fields.proofs.Judged.{high-out}
 use Rattle.fields.proofs.Codecs.{Bytes}
 use Rattle.plan.specs.declared.Plan.{Plan}
 use Rattle.plan.specs.declared.Reading.{Reading}
 use Rattle.plan.specs.Record.{Valid}
 use Rattle.plan.specs.Reading.{plan, cleared, asReading, readPlan}
 use Rattle.plan.specs.Writing.{message, judge, writePlan, writtenPlan}
-use Rattle.plan.proofs.Format.{Fits, plan-message}
-use Rattle.plan.proofs.JobLists.{cleared-list, cleared-message}
+use Rattle.plan_laws.proofs.Format.{Fits, plan-message}
+use Rattle.plan_laws.proofs.JobLists.{cleared-list, cleared-message}
 
 -- a valid record, written and read, is the same record up to T, and 0 past it
 pub written-read : (p : Plan) → Valid p → readPlan (message p) ≡ record { verdict = Accepted; plan = cleared p }

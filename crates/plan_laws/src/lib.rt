@@ -1,0 +1,1 @@
+// What reading and writing plans promise together. No code.
