@@ -24,7 +24,7 @@ use Rattle.sequencing.proofs.Ties.{tie-rule, plan-first}
 use Rattle.sequencing.proofs.Equations.{value-no-job, value-none-left, value-some-left, plan-none-left, plan-some-left}
 use Rattle.sequencing.proofs.Entries.{number-in, kind-number, left-number, pair-in, number-pair, number-next}
 use Rattle.sequencing.proofs.FeasibleCount.{feasible-count, count-unique}
-use Rattle.sequencing.proofs.LoopOrder.{count-by-left}
+use Rattle.sequencing.proofs.CountByLeft.{count-by-left}
 use Rattle.queue.specs.declared.Queue.{Queue}
 use Rattle.queue.specs.Record.{Valid}
 use Rattle.problem.specs.OfQueue.{problem}
@@ -126,6 +126,6 @@ module _ (q : Queue) (valid : Valid q) where
   pub counted-once : (n : ℕ) → CountsFeasible P n → n ≡ feasibleStates P
   counted-once n c = count-unique P n (feasibleStates P) c (feasible-count P)
 
-  -- a loop with k outermost and L within finds the same total
+  -- taken with k outermost and L within, the total is the same
   pub counted-by-left : sum (map (λ i. sum (map (λ L. valued (value P L (digits (allLeft P) i))) (upto (P .N)))) (from 0 (block P))) ≡ feasibleStates P
   counted-by-left = count-by-left P

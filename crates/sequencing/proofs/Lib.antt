@@ -20,4 +20,4 @@ pub mod Bounds
 pub mod Sums
 pub mod Distinct
 pub mod FeasibleCount
-pub mod LoopOrder
+pub mod CountByLeft

@@ -1,4 +1,4 @@
--- Bounds on gaps and weights, and the number of the bound that values have under them.
+-- Bounds on gaps and weights, and the sum 1 + 2 + .. + n that bounds values under them.
 use Prim.Native.Nat.{ℕ, zero, suc, _+_, _≤_}
 use Rattle.sequencing.specs.Problem.{Problem}
 
