@@ -1,4 +1,5 @@
--- A valid queue is a problem of the theory: its jobs and kinds are the record's, it is within 01's limits, and 01's place rule has the exchange law.
+-- A valid queue is a problem of the theory: its jobs and kinds are the record's, it is within 01's limits, and 01's place rule has the exchange law
+-- and holds between a job's earliest and latest place.
 -- Assumes nothing.
 use mathlib.Core.Bool.{_&&_}
 use mathlib.Core.Logic.{_↔_}

@@ -4,19 +4,23 @@ use mathlib.Core.List.{List, [], _∷_, map}
 use mathlib.Core.Path.{_≡_, refl, ap}
 use Prim.Native.Nat.{ℕ, zero, suc, pred, _+_, _*_, _≤_, _<_}
 use native.Mathlib.Nat.{add-zero, zero-add, suc-add, zero-mul, suc-mul}
+use native.Mathlib.Numerals.{add-one}
 use native.Mathlib.Omega.{arith}
 use Rattle.sequencing.specs.Lists.{from, sum}
 
 sum-start : (f : ℕ → ℕ) (n : ℕ) {i j : ℕ} → i ≡ j → sum (map f (from i n)) ≡ sum (map f (from j n))
 sum-start f n e = ap (λ i. sum (map f (from i n))) e
 
+-- m terms, and then n
+sum-append : (f : ℕ → ℕ) (i m n : ℕ) → sum (map f (from i (m + n))) ≡ sum (map f (from i m)) + sum (map f (from (i + m) n))
+unfolding sum from
+sum-append f i zero n = rw (add-zero i, zero-add n) (omega arith)
+sum-append f i (suc m) n = rw (suc-add m n) (omega (arith, sum-append f (suc i) m n, sum-start f n {i = suc i + m} {j = i + suc m} (omega arith)))
+
 -- one term more
 pub sum-more : (f : ℕ → ℕ) (i n : ℕ) → sum (map f (from i (suc n))) ≡ sum (map f (from i n)) + f (i + n)
 unfolding sum from
-sum-more f i zero = rw (add-zero i) (omega arith)
-sum-more f i (suc n) =
-    let e : f (suc i + n) ≡ f (i + suc n) = ap f (omega arith) in
-    omega (arith, sum-more f (suc i) n, e)
+sum-more f i n = omega (arith, rw add-one at (sum-append f i n 1))
 
 pub sum-same : (f g : ℕ → ℕ) (i n : ℕ) → ((j : ℕ) → i ≤ j → j < i + n → f j ≡ g j) → sum (map f (from i n)) ≡ sum (map g (from i n))
 unfolding sum from
@@ -29,12 +33,6 @@ sum-most f m i zero h = omega arith
 sum-most f m i (suc n) h = rw (suc-mul n m) (omega (arith, h i (omega arith) (omega arith), sum-most f m (suc i) n (λ j l u. h j (omega arith) (omega arith))))
 
 -- ---- blocks
-
--- m terms, and then n
-sum-append : (f : ℕ → ℕ) (i m n : ℕ) → sum (map f (from i (m + n))) ≡ sum (map f (from i m)) + sum (map f (from (i + m) n))
-unfolding sum from
-sum-append f i zero n = rw (add-zero i, zero-add n) (omega arith)
-sum-append f i (suc m) n = rw (suc-add m n) (omega (arith, sum-append f (suc i) m n, sum-start f n {i = suc i + m} {j = i + suc m} (omega arith)))
 
 -- the terms counted from elsewhere
 sum-shift : (f : ℕ → ℕ) (s i n : ℕ) → sum (map f (from (s + i) n)) ≡ sum (map (λ j. f (s + j)) (from i n))
