@@ -1,7 +1,7 @@
 -- The loops over the gap rows and over the windows: their invariants, and what a turn does to them.
 -- Assumes nothing.
 use Prim.Native.Nat.{ℕ, suc, _+_, _<_, _≤_}
-use mathlib.Core.Path.{_≡_, refl, sym, ap, _∙_}
+use mathlib.Core.Path.{_≡_, refl, ap, _∙_}
 use mathlib.Core.List.{List, map}
 use native.Mathlib.Omega.{arith}
 use lib.ListN.{length, set, length-set}
@@ -27,15 +27,15 @@ module _ {s : List ℕ} {at kinds : ℕ} {gaps₀ : List ℕ} where
   pub rows-none : Rows s at kinds gaps₀ gaps₀ at 0
   rows-none = record { long = refl; loop = loop-none (times-in-order (times kinds gapField) (kinds + 1) s at) }
 
-  pub rows-more : {gaps : List ℕ} {i row : ℕ} → Rows s at kinds gaps₀ gaps i row → (next : ℕ) → row ≤ kinds → asOutcome (times kinds gapField s i) ≡ Next next
-      → Rows s at kinds gaps₀ (sets gaps (gapRow row) (readBefore kinds gapField s i)) next (row + 1)
+  pub rows-more : {gaps : List ℕ} {i row : ℕ} → Rows s at kinds gaps₀ gaps i row → (from next : ℕ) → from ≡ gapRow row → row ≤ kinds → asOutcome (times kinds gapField s i) ≡ Next next
+      → Rows s at kinds gaps₀ (sets gaps from (readBefore kinds gapField s i)) next (row + 1)
   unfolding placed
-  rows-more {gaps} {i} {row} w next h e =
+  rows-more {gaps} {i} {row} w from next begins h e =
       let (vs, f) = as-next (times kinds gapField s i) next e in
+      let same : sets gaps (gapRow row) vs ≡ sets gaps from (readBefore kinds gapField s i) = rw (begins, before-found gapField s kinds i vs next f) in
       record {
-        long = length-sets gaps (gapRow row) (readBefore kinds gapField s i) ∙ w .long;
-        loop = loop-more (w .loop) vs next (sets gaps (gapRow row) (readBefore kinds gapField s i)) (omega arith) f
-            (λ rest. ap (λ (l : List ℕ). placed (sets gaps (gapRow row) l) (suc row) rest) (sym (before-found gapField s kinds i vs next f)));
+        long = length-sets gaps from (readBefore kinds gapField s i) ∙ w .long;
+        loop = loop-more (w .loop) vs next _ (omega arith) f (λ rest. ap (λ (l : List ℕ). placed l (suc row) rest) same);
       }
 
 -- both arrays with the windows from number k on

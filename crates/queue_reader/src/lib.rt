@@ -145,13 +145,7 @@ fn read_window(bytes: &[u8], at: usize) -> WindowRead
 }
 
 // The allowed places of every kind.
-fn read_windows(
-    bytes: &[u8],
-    at: usize,
-    kinds: usize,
-    first: &mut [u8],
-    last: &mut [u8],
-) -> Outcome
+fn read_windows(bytes: &[u8], at: usize, kinds: usize, first: &mut [u8], last: &mut [u8]) -> Outcome
     requires { ⌜ (kinds ≤ length (now first)) × (kinds ≤ length (now last)) ⌝ }
     ensures { λ r. ⌜ r ≡ asOutcome (times kinds window (now (bytes .entry)) at) ⌝ }
     ensures { λ _. ⌜ ((windows : List (ℕ × ℕ)) (n : ℕ) → times kinds window (now (bytes .entry)) at ≡ found windows n → (now (first .exit) ≡ sets (now (first .entry)) 0 (map (λ w. w .0) windows)) × (now (last .exit) ≡ sets (now (last .entry)) 0 (map (λ w. w .1) windows))) ⌝ }

@@ -17,37 +17,52 @@ Inv-loop bytes at kinds gaps₀ i₀ row₀ gaps i row = Rows bytes at kinds gap
 abbrev μ-loop : tie.MeasureT-loop
 μ-loop bytes at kinds gaps₀ i₀ row₀ gaps i row = kinds + 1 - row
 
+-- the turn's start, from where its row was read
+abbrev at-turn : tie.After-read-run Inv-loop μ-loop → tie.In-loop Inv-loop μ-loop
+at-turn c = c .before .before .before
+
+-- where its row was read, from where it was found ..
+abbrev at-found : tie.After-known-told Inv-loop μ-loop → tie.After-read-run Inv-loop μ-loop
+at-found c = c .before .before .before .before .before
+
+-- .. and from where it was refused
+abbrev at-refused : tie.After-enum-told Inv-loop μ-loop → tie.After-read-run Inv-loop μ-loop
+at-refused c = c .before .before .before .before
+
 loop-holds : tie.Need-loop-holds Inv-loop μ-loop
-loop-holds c = rows-none _ _ _ _
+loop-holds c = rows-none
+
+row-start-requires : tie.Need-row-start-requires Inv-loop μ-loop
+row-start-requires c κs = omega arith
 
 read-run-requires : tie.Need-read-run-requires Inv-loop μ-loop
-read-run-requires c κs = omega (arith, c .before .before .loop .inv .long)
+read-run-requires c κs = omega (arith, c .row-start .ensures, c .before .before .before .loop .inv .long)
 
 same-length : tie.Need-same-length Inv-loop μ-loop
-same-length c = c .before .before .before .before .read-run .kept .1 .1 .1 .1 .1 .1 .0 ∙ c .before .before .before .before .before .before .before .loop .inv .long
+same-length c = let call = at-refused c in call .read-run .kept .1 .1 .1 .1 .1 .1 .0 ∙ at-turn call .before .loop .inv .long
 
 returns : tie.Need-returns Inv-loop μ-loop
 returns c =
-    let stopped = as-stopped _ _ (sym (c .before .before .before .before .read-run .ensures .0) ∙ c .enum-told .given .1) in
-    let loop = c .before .before .before .before .before .before .before .loop .inv .loop in (
-      c .enum-told .given .1 ∙ loop-stop _ _ _ _ _ _ _ _ _ loop _ (omega arith) stopped,
-      λ rows n f. absurd (loop-stopped _ _ _ _ _ _ _ _ _ loop _ (omega arith) stopped rows n f),
-    )
+    let call = at-refused c in
+    let loop = at-turn call .before .loop .inv .loop in
+    let stopped = as-stopped _ _ (sym (call .read-run .ensures .0) ∙ c .enum-told .given .1) in
+    (c .enum-told .given .1 ∙ loop-stop loop _ (omega arith) stopped, λ rows n f. loop-stopped loop _ (omega arith) stopped rows n f)
 
 loop-less : tie.Need-loop-less Inv-loop μ-loop
 loop-less c = omega arith
 
 loop-again : tie.Need-loop-again Inv-loop μ-loop
 loop-again c =
-    let run = c .before .before .before .before .before .read-run in
-    rw (run .ensures .1) (rows-more _ _ _ _ _ _ _ (c .before .before .before .before .before .before .before .before .loop .inv) _ (c .before .before .before .before .before .before .before .loop-test .taken) (sym (run .ensures .0) ∙ c .before .outcome .given .1))
+    let call = at-found c in
+    rw (call .read-run .ensures .1)
+    (rows-more (at-turn call .before .loop .inv) _ _ (call .before .row-start .ensures) (at-turn call .loop-test .taken) (sym (call .read-run .ensures .0) ∙ c .before .outcome .given .1))
 
 same-length-2 : tie.Need-same-length-2 Inv-loop μ-loop
 same-length-2 c = c .before .loop .inv .long
 
 returns-2 : tie.Need-returns-2 Inv-loop μ-loop
 unfolding placed
-returns-2 c = (loop-done _ _ _ _ _ _ _ _ _ (c .before .loop .inv .loop) (omega arith), λ rows n f. loop-stored _ _ _ _ _ _ _ _ _ (c .before .loop .inv .loop) (omega arith) (λ st. refl) rows n f)
+returns-2 c = let loop = c .before .loop .inv .loop in (loop-done loop (omega arith), λ rows n f. loop-stored loop (omega arith) refl rows n f)
 
 pub read-gaps-spec : {M : Type 1} → statement M
 read-gaps-spec =
@@ -56,7 +71,7 @@ read-gaps-spec =
     Inv-loop
     μ-loop
     loop-holds
-    (λ c. search needs)
+    row-start-requires
     read-run-requires
     (λ c. search needs)
     (λ c. search needs)

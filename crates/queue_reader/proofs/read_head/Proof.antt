@@ -1,32 +1,38 @@
 -- `queue_reader::read_head` meets its contract: settings, then tables.
 -- Assumes nothing.
-use mathlib.Core.Path.{sym, ap, _∙_}
+use mathlib.Core.Path.{_≡_, sym, ap, _∙_}
+use Rattle.number.specs.Readers.{found}
 use Rattle.queue.specs.Reading.{settings}
-use Rattle.queue_reader.specs.Answers.{asHead}
-use Rattle.queue_reader.proofs.Parts.{as-known, as-unknown}
 use Rattle.queue.proofs.SettingsRead.{settings-ok}
 use Rattle.queue.proofs.Chains.{no-settings, the-head}
+use Rattle.queue_reader.specs.Answers.{asHead}
+use Rattle.queue_reader.proofs.Parts.{as-known, as-unknown}
 use borrow.Author.Needs.{needs}
 use Rattle.queue_reader.proofs.read_head.Statement.{statement}
 use Rattle.queue_reader.proofs.read_head.Tie as tie
 
-read-tables-requires : tie.Need-read-tables-requires
-read-tables-requires c κs =
-    let s = c .before .before .before .before .before .args .bytes .now in
-    let at = c .before .before .before .before .before .args .at in
-    settings-ok s at _ _ (as-known (settings s at) _ _ (sym (c .before .before .before .read-settings .ensures) ∙ c .before .front .given .1)) .kinds .1
+-- the settings
+abbrev at-entry : tie.After-front → tie.Start
+at-entry c = c .before .before .before .before
+
+settings-found : (c : tie.After-front) → let args = at-entry c .args in settings (args .bytes .now) (args .at) ≡ found (c .front .given .0 .0) (c .front .given .0 .1 .0)
+settings-found c = as-known _ _ _ (sym (c .before .before .read-settings .ensures) ∙ c .front .given .1)
 
 returns : tie.Need-returns
 returns c =
-    let s = c .before .before .before .before .before .before .args .bytes .now in
-    let at = c .before .before .before .before .before .before .args .at in
-    c .no-head .ensures ∙ ap asHead (sym (no-settings s at _ (as-unknown (settings s at) _ (sym (c .before .before .before .before .read-settings .ensures) ∙ c .before .before .why .given .1))))
+    let why = c .before .before in
+    let args = why .before .before .before .before .args in
+    let refusal = as-unknown (settings (args .bytes .now) (args .at)) _ (sym (why .before .before .read-settings .ensures) ∙ why .why .given .1) in
+    c .no-head .ensures ∙ ap asHead (sym (no-settings (args .bytes .now) (args .at) _ refusal))
+
+read-tables-requires : tie.Need-read-tables-requires
+read-tables-requires c κs = let args = at-entry (c .before) .args in settings-ok (args .bytes .now) (args .at) _ _ (settings-found (c .before)) .kinds .1
 
 returns-2 : tie.Need-returns-2
 returns-2 c =
-    let s = c .before .before .before .before .before .before .args .bytes .now in
-    let at = c .before .before .before .before .before .before .args .at in
-    c .read-tables .ensures ∙ ap asHead (sym (the-head s at _ _ (as-known (settings s at) _ _ (sym (c .before .before .before .before .read-settings .ensures) ∙ c .before .before .front .given .1))))
+    let front = c .before .before in
+    let args = at-entry front .args in
+    c .read-tables .ensures ∙ ap asHead (sym (the-head (args .bytes .now) (args .at) _ _ (settings-found front)))
 
 pub read-head-spec : {M : Type 1} → statement M
 read-head-spec =

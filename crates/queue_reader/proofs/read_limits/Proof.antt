@@ -14,24 +14,35 @@ use borrow.Author.Needs.{needs}
 use Rattle.queue_reader.proofs.read_limits.Statement.{statement}
 use Rattle.queue_reader.proofs.read_limits.Tie as tie
 
+-- the function's entry, from where the weights were read
+abbrev at-entry : tie.After-read-run → tie.Start
+at-entry c = c .before .before .before
+
+-- .. which is where the windows were read from
+abbrev at-outcome : tie.After-read-windows → tie.After-outcome
+at-outcome c = c .before .before .before .before
+
 returns : tie.Need-returns
 returns c =
-    let s = c .before .before .before .before .before .before .args .bytes .now in
-    let at = c .before .before .before .before .before .before .args .at in
-    let h = no-limits (c .before .before .before .before .before .before .args .kinds) s at _ (as-stopped (times (c .before .before .before .before .before .before .args .kinds) weightField s at) _ (sym (c .before .before .before .read-run .ensures .0) ∙ c .enum-told .given .1)) in
+    let call = c .before .before .before in
+    let args = at-entry call .args in
+    let h = no-limits (args .kinds) (args .bytes .now) (args .at) _ (as-stopped (times (args .kinds) weightField (args .bytes .now) (args .at)) _ (sym (call .read-run .ensures .0) ∙ c .enum-told .given .1)) in
     (c .enum-told .given .1 ∙ sym (ap asOutcome h), λ ws windows n e. not-found _ _ n (sym h ∙ e))
 
 returns-2 : tie.Need-returns-2
 returns-2 c =
-    let s = c .before .before .before .before .before .before .before .before .before .before .before .before .args .bytes .now in
-    let at = c .before .before .before .before .before .before .before .before .before .before .before .before .args .at in
-    let k = c .before .before .before .before .before .before .before .before .before .before .before .before .args .kinds in
-    let a = c .before .before .before .before .before .before .outcome .given .0 .0 in
-    let (vs, g) = as-next (times k weightField s at) _ (sym (c .before .before .before .before .before .before .before .before .before .read-run .ensures .0) ∙ c .before .before .before .before .before .before .outcome .given .1) in (
-      c .before .before .read-windows .ensures .0 ∙ limits-end k s at vs a g,
+    let call = c .before .before in
+    let out = at-outcome call in
+    let weights = out .before .before .before in
+    let args = at-entry weights .args in
+    let k = args .kinds in
+    let s = args .bytes .now in
+    let (vs, g) = as-next (times k weightField s (args .at)) _ (sym (weights .read-run .ensures .0) ∙ out .outcome .given .1) in (
+      call .read-windows .ensures .0 ∙ limits-end k s (args .at) vs _ g,
       λ ws windows n e.
-          let (p, h) = limits-found k s at vs a g ws windows n e in
-          (c .before .before .before .before .before .before .before .before .before .read-run .ensures .1 ∙ ap (sets (replicate 5 0) 0) (before-found weightField s k at vs a g ∙ p), c .before .before .read-windows .ensures .1 windows n h .0, c .before .before .read-windows .ensures .1 windows n h .1),
+          let (p, h) = limits-found k s (args .at) vs _ g ws windows n e in
+          let places = call .read-windows .ensures .1 windows n h in
+          (weights .read-run .ensures .1 ∙ ap (sets (replicate 5 0) 0) (before-found weightField s k (args .at) vs _ g ∙ p), places .0, places .1),
     )
 
 pub read-limits-spec : {M : Type 1} → statement M

@@ -2,31 +2,43 @@
 -- Assumes nothing.
 use mathlib.Core.Path.{sym, ap, _∙_}
 use Rattle.fields.proofs.Judged.{as-next, as-stopped}
-use Rattle.queue_reader.specs.Answers.{asHead}
 use Rattle.queue.proofs.Chains.{rowsAt, no-rows}
+use Rattle.queue_reader.specs.Answers.{asHead}
 use Rattle.queue_reader.proofs.Built.{head-is}
 use Rattle.queue_reader.proofs.Rests.{tables-end}
 use borrow.Author.Needs.{needs}
 use Rattle.queue_reader.proofs.read_tables.Statement.{statement}
 use Rattle.queue_reader.proofs.read_tables.Tie as tie
 
+-- the function's entry, from where the gap rows were read
+abbrev at-entry : tie.After-read-gaps → tie.Start
+at-entry c = c .before .before .before .before
+
+-- .. which is where the rest was found from
+abbrev at-gaps : tie.After-next → tie.After-read-gaps
+at-gaps c = c .before .before .before
+
+abbrev at-next : tie.After-read-limits → tie.After-next
+at-next c = c .before .before
+
 returns : tie.Need-returns
 returns c =
-    let f = c .before .before .before .before .before .before .before .before .before .args .front in
-    let s = c .before .before .before .before .before .before .before .before .before .args .bytes .now in
-    let at = c .before .before .before .before .before .before .before .before .before .args .at in
-    c .no-head .ensures ∙ ap asHead (sym (no-rows f s at _ (as-stopped (rowsAt f s at) _ (sym (c .before .before .before .before .before .read-gaps .ensures .0) ∙ c .before .before .why .given .1))))
+    let why = c .before .before in
+    let call = why .before .before .before in
+    let args = at-entry call .args in
+    let refusal = as-stopped (rowsAt (args .front) (args .bytes .now) (args .at)) _ (sym (call .read-gaps .ensures .0) ∙ why .why .given .1) in
+    c .no-head .ensures ∙ ap asHead (sym (no-rows (args .front) (args .bytes .now) (args .at) _ refusal))
 
 returns-2 : tie.Need-returns-2
 returns-2 c =
-    let f = c .before .before .before .before .before .before .before .before .before .before .before .before .before .args .front in
-    let s = c .before .before .before .before .before .before .before .before .before .before .before .before .before .args .bytes .now in
-    let at = c .before .before .before .before .before .before .before .before .before .before .before .before .before .args .at in
-    let a = c .before .before .before .before .before .before .next .given .0 .0 in
-    let (rows, e) = as-next (rowsAt f s at) a (sym (c .before .before .before .before .before .before .before .before .before .read-gaps .ensures .0) ∙ c .before .before .before .before .before .before .next .given .1) in
+    let limits = c .before .before .before .before in
+    let next = at-next limits in
+    let gaps = at-gaps next .read-gaps in
+    let args = at-entry (at-gaps next) .args in
+    let (rows, e) = as-next (rowsAt (args .front) (args .bytes .now) (args .at)) _ (sym (gaps .ensures .0) ∙ next .next .given .1) in
     c .as-head .ensures
-    ∙ tables-end f s at rows a e _ _ (c .before .before .before .before .read-limits .ensures .0)
-    (λ ws windows n l. let p = c .before .before .before .before .read-limits .ensures .1 ws windows n l in head-is f _ _ _ _ rows ws windows (c .before .before .before .before .before .before .before .before .before .read-gaps .ensures .1 rows a e) (p .0) (p .1, p .2))
+    ∙ tables-end (args .front) (args .bytes .now) (args .at) rows _ e _ _ (limits .read-limits .ensures .0)
+    (λ ws windows n l. let p = limits .read-limits .ensures .1 ws windows n l in head-is (args .front) _ _ _ _ rows ws windows (gaps .ensures .1 rows _ e) (p .0) (p .1, p .2))
 
 pub read-tables-spec : {M : Type 1} → statement M
 read-tables-spec =

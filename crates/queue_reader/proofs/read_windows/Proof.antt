@@ -1,12 +1,10 @@
 -- `queue_reader::read_windows` meets its contract: `Windows` is the invariant; the kinds left fall.
 -- Assumes nothing.
 use Prim.Native.Nat.{ℕ, _-_}
-use mathlib.Core.Path.{_≡_, refl, sym, ap, _∙_}
+use mathlib.Core.Path.{refl, sym, ap, _∙_}
 use mathlib.Core.List.{List}
 use native.Mathlib.Omega.{arith}
-use Rattle.number.specs.Readers.{refused}
 use Rattle.fields.proofs.Loops.{loop-stop, loop-stopped, loop-done, loop-stored}
-use Rattle.queue.specs.Reading.{window}
 use Rattle.queue_reader.proofs.Parts.{as-window, as-closed}
 use Rattle.queue_reader.proofs.Loops.{Windows, windows-none, windows-more}
 use borrow.Author.Needs.{needs}
@@ -81,9 +79,7 @@ read-windows-spec =
     loop-holds
     (λ c κs. search needs)
     (λ c. search needs)
-    (λ c. search needs)
     slice-write-first
-    (λ c. search needs)
     slice-write-last
     (λ c. search needs)
     same-length
