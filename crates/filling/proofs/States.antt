@@ -14,6 +14,7 @@ use lib.Dec.{leb, eqb}
 use lib.ListN.{length, getD, set, length-set}
 use lib.Seq.{getD-set-same, getD-set-other}
 use borrow.Author.Count.{below-more}
+use borrow.Author.Tests.{eq-eqb}
 use Rattle.sequencing.specs.Lists.{at, from, upto, sum}
 use Rattle.sequencing.specs.Least.{least}
 use Rattle.sequencing.specs.Counts.{valued}
@@ -22,7 +23,7 @@ use Rattle.sequencing.proofs.Options.{found-most}
 use Rattle.sequencing.proofs.Sums.{sum-more}
 use Rattle.jobs_left.specs.declared.JobsLeft.{JobsLeft}
 use Rattle.layout.specs.declared.Size.{Size}
-use Rattle.next_states.specs.NextStates.{loaded, candidate}
+use Rattle.next_states.specs.NextStates.{loaded, candidate, Ready}
 use Rattle.next_states.proofs.Stored.{Fits, fits-only, fits-cond, fits-least, loaded-stored}
 use Rattle.next_states.proofs.Candidates.{candidate-fits}
 use Rattle.filling.specs.Filling.{Arrays, nextOf, weightOf, inPlace, entered, entryFrom, Fillable, StatesFilled}
@@ -72,6 +73,10 @@ module _ {table₀ : List ℕ} {a : Arrays} {s : Size} {goal : ℕ} {k : JobsLef
       rw (n, v)
       (fits-only (inPlace table₀ a s goal k L) (cond (eqb (k .jobs) 0) (some 0) (least all 5))
       (fits-cond (eqb (k .jobs) 0) (some 0) (least all 5) (omega arith) (fits-least all 5 (candidate-fits (f .ready L l u)))))
+
+  -- what a state's value may rely on
+  pub state-ready : (L : ℕ) → 1 ≤ L → L ≤ s .kinds → Ready next (a .gaps) L weight × (goal ≡ 1 → weight ≡ 1)
+  state-ready L l u = (rw (n, v) (f .ready L l u), λ e. v ∙ rw (eq-eqb goal 1 e))
 
   module _ {table : List ℕ} {feasible kind : ℕ} (w : KindsUpTo entry (s .kinds) (s .block) (k .index) table₀ table feasible kind) where
     module _ (h : kind < s .kinds) where

@@ -32,7 +32,7 @@ use Rattle.jobs_left.specs.Steps.{next, Summed, LeftAt}
 use Rattle.jobs_left.proofs.LeftAt.{take-zeros, left-none, left-step}
 use Rattle.layout.specs.declared.Layout.{Layout}
 use Rattle.layout.specs.Prepared.{Prepared}
-use Rattle.layout.proofs.Prepared.{counts-take}
+use Rattle.layout.proofs.Prepared.{counts-long, counts-take}
 use Rattle.filling.specs.Filling.{Earlier, entryFrom, StatesFilled}
 use Rattle.filling.proofs.Values.{Look}
 use Rattle.filling.proofs.Entered.{arraysOf, entry-is-value}
@@ -106,14 +106,20 @@ module _ {q : Queue} {l : Layout} {table₀ : List ℕ} (g : Given q l table₀)
         left-at = w .left-at in-block;
       }
 
-      -- what stepping on may rely on
-      pub sums-fit : (k .jobs < 2 ^ 31) × ((k .weight < 2 ^ 63) × (k .index < 2 ^ 63))
+      sums-fit : (k .jobs < 2 ^ 31) × ((k .weight < 2 ^ 63) × (k .index < 2 ^ 63))
       sums-fit =
           let n = take (q .kinds) left in
-          let few : sum n ≤ 60 = rw (w .left-at in-block .here) (omega (arith, left-small (problem q) (digits (allLeft (problem q)) (k .index)) (left-digits (problem q) (k .index)), few-jobs q (g .valid))) in
-          let long = length-take-le (q .kinds) left (omega (arith, w .left-at in-block .long, g .valid .kinds)) in
+          let few : sum n ≤ 60 = rw (looking .left-at .here) (omega (arith, left-small (problem q) (digits (allLeft (problem q)) (k .index)) (left-digits (problem q) (k .index)), few-jobs q (g .valid))) in
+          let long = length-take-le (q .kinds) left (omega (arith, looking .left-at .long, g .valid .kinds)) in
           let most = weigh-le (λ j. getD (q .weights) (j - 1) 0) 1000 n (λ j a u. g .valid .weights j a (omega (arith, long))) in
           (omega (arith, w .summed .jobs-are), (omega (arith, w .summed .weight-is, most), omega (arith, in-block, entries-more, entries-small q (g .valid))))
+
+      -- what stepping on may rely on
+      pub may-step : (l .size .kinds ≤ 5)
+          × ((length left ≡ 5) × ((length (l .counts) ≡ 5) × ((length (q .weights) ≡ 5)
+          × (Summed (q .weights) (take (l .size .kinds) left) (k .jobs) (k .weight) × ((k .jobs < 2 ^ 31) × ((k .weight < 2 ^ 63) × (k .index < 2 ^ 63)))))))
+      may-step = rw (g .prepared .kinds-are)
+          (g .valid .kinds .1, (looking .left-at .long, (counts-long (g .valid) (g .prepared), (g .weights-long, (w .summed, sums-fit)))))
 
       -- entries of other indices stand elsewhere
       apart : (L M j : ℕ) → j < k .index → (L - 1) * block (problem q) + j ≡ (M - 1) * block (problem q) + k .index → ⊥
