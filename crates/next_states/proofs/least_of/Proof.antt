@@ -3,7 +3,6 @@
 use Prim.Native.Nat.{_+_, _-_}
 use mathlib.Core.Path.{_≡_, refl}
 use native.Mathlib.Numerals.{add-one}
-use native.Mathlib.Omega.{arith}
 use Rattle.sequencing.specs.Entries.{stored}
 use Rattle.next_states.specs.NextStates.{candidate}
 use Rattle.next_states.proofs.Candidates.{candidate-fits, small-next}
