@@ -1,4 +1,3 @@
 pub mod Standing
 pub mod Orders
-pub mod Fronts
 pub mod Whole

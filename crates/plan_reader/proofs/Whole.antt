@@ -2,7 +2,7 @@
 -- Assumes nothing.
 use Prim.Native.Nat.{ℕ, _≤_}
 use mathlib.Core.Path.{_≡_, refl, ap, _∙_}
-use mathlib.Core.List.{List, []}
+use mathlib.Core.List.{List}
 use native.Mathlib.Omega.{arith}
 use lib.ListN.{length}
 use borrow.Author.Tests.{eq-eqb, ne-eqb}
@@ -43,7 +43,7 @@ same-then (refused r) g h e = refl
 -- from the jobs on
 abbrev jobsOf : List ℕ → Front → ℕ → Found Plan
 jobsOf s f i =
-    andThen (order (f .jobs) (f .jobs) [] s (f .next)) λ js n.
+    andThen (order (f .jobs) s (f .next)) λ js n.
     andThen (end s n) λ _ m.
     found (planOf (f .goal) (f .cost) (f .«feasible_states») (f .jobs) js) m
 
@@ -77,11 +77,11 @@ module _ (s : List ℕ) where
   whole-front r e = rw (← plan-front s 0, e)
 
   module _ (f : Front) (n : ℕ) (e : front s 0 ≡ found f n) where
-    pub whole-order : (r : Reason) → order (f .jobs) (f .jobs) [] s (f .next) ≡ refused r → asReading (refused r) ≡ readPlan s
+    pub whole-order : (r : Reason) → order (f .jobs) s (f .next) ≡ refused r → asReading (refused r) ≡ readPlan s
     unfolding readPlan
     whole-order r o = rw (← plan-front s 0, e, o)
 
-    module _ (js : List ℕ) (m : ℕ) (o : order (f .jobs) (f .jobs) [] s (f .next) ≡ found js m) where
+    module _ (js : List ℕ) (m : ℕ) (o : order (f .jobs) s (f .next) ≡ found js m) where
       pub whole-trailing : (m ≡ length s → ⊥) → asReading (refused LeftOver) ≡ readPlan s
       unfolding readPlan
       whole-trailing h = rw (← plan-front s 0, e, o, ne-eqb m (length s) h)

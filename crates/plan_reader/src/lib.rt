@@ -7,7 +7,7 @@ use plan::Reading;
 use refusal::Reason;
 use refusal::Verdict;
 ghost use mathlib.Core.Path.{_≡_};
-ghost use mathlib.Core.List.{List, []};
+ghost use mathlib.Core.List.{List};
 ghost use Prim.Native.Nat.{ℕ, _≤_};
 ghost use lib.ListN.{length, take};
 ghost use lib.Seq.{sets};
@@ -35,12 +35,12 @@ enum FrontRead {
 }
 
 // The job at the place after the first `places`.
-fn read_job(bytes: &[u8], at: usize, order: &[u32], places: usize, jobs: u32) -> Field
+fn read_job(bytes: &[u8], at: usize, order: &[u8], places: usize, jobs: u32) -> Field
     ensures { λ r. ⌜ r ≡ asField (field 3 (fresh jobs (take places (now (order .entry)))) Job (now (bytes .entry)) at) ⌝ }
 {
     match fields_reader::read_field(bytes, at, 1, jobs, Reason::Job) {
         Field::Value { value, next } => {
-            if plan_jobs::stands_in(order, places, value) {
+            if fields::stands_in(order, places, value) {
                 return Field::Refused(Reason::Job);
             }
             Field::Value { value, next }
@@ -50,17 +50,17 @@ fn read_job(bytes: &[u8], at: usize, order: &[u32], places: usize, jobs: u32) ->
 }
 
 // The job at each place, stored in `out`.
-fn read_order(bytes: &[u8], at: usize, jobs: u32, out: &mut [u32]) -> Outcome
-    requires { ⌜ jobs ≤ length (now out) ⌝ }
-    ensures { λ r. ⌜ r ≡ asOutcome (order jobs jobs [] (now (bytes .entry)) at) ⌝ }
-    ensures { λ _. ⌜ ((js : List ℕ) (n : ℕ) → order jobs jobs [] (now (bytes .entry)) at ≡ found js n → now (out .exit) ≡ sets (now (out .entry)) 0 js) ⌝ }
+fn read_order(bytes: &[u8], at: usize, jobs: u32, out: &mut [u8]) -> Outcome
+    requires { ⌜ (jobs ≤ 60) × (jobs ≤ length (now out)) ⌝ }
+    ensures { λ r. ⌜ r ≡ asOutcome (order jobs (now (bytes .entry)) at) ⌝ }
+    ensures { λ _. ⌜ ((js : List ℕ) (n : ℕ) → order jobs (now (bytes .entry)) at ≡ found js n → now (out .exit) ≡ sets (now (out .entry)) 0 js) ⌝ }
 {
     let mut i = at;
     let mut k: usize = 0;
     while k < jobs as usize {
         match read_job(bytes, i, out, k, jobs) {
             Field::Value { value, next } => {
-                out[k] = value;
+                out[k] = value as u8;
                 i = next;
             }
             Field::Refused(why) => {
@@ -76,7 +76,7 @@ fn read_order(bytes: &[u8], at: usize, jobs: u32, out: &mut [u32]) -> Outcome
 fn read_start(bytes: &[u8]) -> Field
     ensures { λ r. ⌜ r ≡ asField (start (now (bytes .entry)) 0) ⌝ }
 {
-    if !openings::has_opening(bytes, b"QP") {
+    if !fields_reader::has_opening(bytes, b"QP") {
         return Field::Refused(Reason::Opening);
     }
     match fields_reader::read_field(bytes, 2, 1, 1, Reason::Edition) {
@@ -136,7 +136,7 @@ fn blank(why: Reason) -> Reading
             cost: 0,
             feasible_states: 0,
             jobs: 0,
-            order: [0u32; 60],
+            order: [0u8; 60],
         },
     }
 }
@@ -148,7 +148,7 @@ pub fn read_plan(bytes: &[u8]) -> Reading
     match read_front(bytes) {
         FrontRead::Refused(why) => blank(why),
         FrontRead::Value(front) => {
-            let mut order = [0u32; 60];
+            let mut order = [0u8; 60];
             match read_order(bytes, front.next, front.jobs, &mut order) {
                 Outcome::Refused(why) => blank(why),
                 Outcome::Next(end) => {

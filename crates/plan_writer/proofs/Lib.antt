@@ -1,4 +1,1 @@
-pub mod Testing
-pub mod Judging
 pub mod Filling
-pub mod Answering

@@ -4,28 +4,33 @@ use refusal::Reason;
 use refusal::Verdict;
 use refusal::Written;
 ghost use mathlib.Core.Path.{_≡_};
-ghost use mathlib.Core.List.{[]};
-ghost use Prim.Native.Nat.{_≤_};
-ghost use lib.ListN.{length, take};
+ghost use Prim.Native.Nat.{_<_, _≤_};
+ghost use lib.ListN.{length, getD, take};
 ghost use lib.Seq.{sets};
+ghost use Rattle.plan.specs.Record.{fresh};
 ghost use Rattle.plan.specs.Writing.{message, allFresh, judge, writePlan, writtenPlan};
 ghost use Rattle.plan_writer.specs.Fronts.{frontBytes};
 
-// Whether each of the jobs is from 1 to `jobs` and stands at no earlier place.
-fn all_fresh(order: &[u32], jobs: u32) -> bool
+// Whether the job behind the first `places` is from 1 to `jobs` and stands at none of them.
+fn is_fresh(order: &[u8], places: usize, jobs: u32) -> bool
+    requires { ⌜ places < length (now order) ⌝ }
+    ensures { λ r. ⌜ r ≡ fresh jobs (take places (now (order .entry))) (getD (now (order .entry)) places 0) ⌝ }
+{
+    let job = wide(order[places]);
+    if !fields::is_within(job as u64, 1, jobs as u64) {
+        return false;
+    }
+    !fields::stands_in(order, places, job)
+}
+
+// Whether the job at every place is.
+fn all_fresh(order: &[u8], jobs: u32) -> bool
     requires { ⌜ jobs ≤ length (now order) ⌝ }
-    ensures { λ r. ⌜ r ≡ allFresh jobs [] (take jobs (now (order .entry))) ⌝ }
+    ensures { λ r. ⌜ r ≡ allFresh jobs (take jobs (now (order .entry))) ⌝ }
 {
     let mut k: usize = 0;
     while k < jobs as usize {
-        let job = order[k];
-        if job < 1 {
-            return false;
-        }
-        if jobs < job {
-            return false;
-        }
-        if plan_jobs::stands_in(order, k, job) {
+        if !is_fresh(order, k, jobs) {
             return false;
         }
         k = k + 1;
@@ -37,19 +42,16 @@ fn all_fresh(order: &[u32], jobs: u32) -> bool
 fn judge_plan(plan: Plan) -> Verdict
     ensures { λ r. ⌜ r ≡ judge plan ⌝ }
 {
-    if plan.goal < 1 {
+    if !fields::is_within(plan.goal as u64, 1, 2) {
         return Verdict::Refused(Reason::Goal);
     }
-    if 2 < plan.goal {
-        return Verdict::Refused(Reason::Goal);
-    }
-    if 4398046511103 < plan.cost {
+    if !fields::is_within(plan.cost, 0, 4398046511103) {
         return Verdict::Refused(Reason::Groups);
     }
-    if 4398046511103 < plan.feasible_states {
+    if !fields::is_within(plan.feasible_states, 0, 4398046511103) {
         return Verdict::Refused(Reason::Groups);
     }
-    if 60 < plan.jobs {
+    if !fields::is_within(plan.jobs as u64, 0, 60) {
         return Verdict::Refused(Reason::Jobs);
     }
     let order = plan.order;
@@ -65,7 +67,7 @@ fn write_front(buffer: &mut [u8], plan: Plan) -> usize
     ensures { λ r. ⌜ r ≡ length (frontBytes plan) ⌝ }
     ensures { λ _. ⌜ now (buffer .exit) ≡ sets (now (buffer .entry)) 0 (frontBytes plan) ⌝ }
 {
-    let a = openings::write_opening(buffer, b"QP");
+    let a = fields_writer::write_opening(buffer, b"QP");
     let b = number::write_number(buffer, a, 1);
     let c = number::write_number(buffer, b, plan.goal as u64);
     let d = number::write_number(buffer, c, plan.cost);
@@ -81,7 +83,7 @@ fn write_message(buffer: &mut [u8], plan: Plan) -> usize
 {
     let at = write_front(buffer, plan);
     let order = plan.order;
-    fields_writer::write_run(buffer, at, &order, 0, plan.jobs as usize)
+    fields_writer::write_byte_run(buffer, at, &order, 0, plan.jobs as usize)
 }
 
 // Writes the message of a valid record; a refused record, or one for a buffer under 77 bytes, changes nothing.
@@ -98,4 +100,10 @@ pub fn write_plan(buffer: &mut [u8], plan: Plan) -> Written
             Written::Bytes(write_message(buffer, plan))
         }
     }
+}
+
+fn wide(x: u8) -> u32
+    ensures { λ r. ⌜ r ≡ x ⌝ }
+{
+    x as u32
 }

@@ -1,10 +1,13 @@
 -- `plan_reader::read_order` meets its contract: `Ordering` is the invariant; the places left to read fall.
 -- Assumes nothing.
 use Prim.Native.Nat.{_-_}
-use mathlib.Core.Path.{sym, _∙_}
+use mathlib.Core.Path.{_≡_, refl, sym, _∙_}
 use native.Mathlib.Omega.{arith}
+use lib.ListN.{take}
+use Rattle.number.specs.Readers.{found}
 use Rattle.fields.proofs.Judged.{as-value, as-refused}
-use Rattle.plan_reader.proofs.Orders.{Ordering, order-none, order-again, order-refused, order-done}
+use Rattle.fields.proofs.Loops.{loop-stop, loop-stopped, loop-done, loop-stored}
+use Rattle.plan_reader.proofs.Orders.{jobAfter, job-small, Ordering, order-none, order-again}
 use borrow.Author.Needs.{needs}
 use Rattle.plan_reader.proofs.read_order.Statement.{statement}
 use Rattle.plan_reader.proofs.read_order.Tie as tie
@@ -16,34 +19,51 @@ abbrev μ-loop : tie.MeasureT-loop
 μ-loop bytes at jobs out₀ i₀ k₀ out i k = jobs - k
 
 loop-holds : tie.Need-loop-holds Inv-loop μ-loop
-loop-holds c = order-none _ _ _ _
+loop-holds c = order-none
+
+-- the turn in which a job was read, or refused
+abbrev turn : tie.After-value Inv-loop μ-loop → tie.In-loop Inv-loop μ-loop
+turn c = c .before .before .before .before
+
+abbrev last : tie.After-why Inv-loop μ-loop → tie.In-loop Inv-loop μ-loop
+last c = c .before .before .before .before
+
+abbrev entry : tie.After-value Inv-loop μ-loop → tie.Start Inv-loop μ-loop
+entry c = turn c .before .before .before .before
+
+job-found : (c : tie.After-value Inv-loop μ-loop)
+    → jobAfter (entry c .args .jobs) (take (turn c .before .loop .k) (turn c .before .loop .out)) (entry c .args .bytes .now) (turn c .before .loop .i) ≡ found (c .value .given .0 .0) (c .value .given .0 .1 .0)
+job-found c = as-value _ _ _ (sym (c .before .before .read-job .ensures) ∙ c .value .given .1)
+
+cast-out : tie.Need-cast-out Inv-loop μ-loop
+cast-out c =
+    let known = c .before in
+    omega (arith, entry known .pre .0, job-small (entry known .args .jobs) _ _ _ (known .value .given .0 .0) _ (job-found known))
 
 slice-write-out : tie.Need-slice-write-out Inv-loop μ-loop
-slice-write-out c = omega (arith, c .before .before .before .before .before .before .loop .inv .long)
+slice-write-out c = omega (arith, turn (c .before) .before .loop .inv .long, entry (c .before) .pre .1)
 
 same-length : tie.Need-same-length Inv-loop μ-loop
-same-length c = c .before .before .before .before .before .before .loop .inv .long
+same-length c = last (c .before) .before .loop .inv .long
 
 returns : tie.Need-returns Inv-loop μ-loop
 returns c =
     let known = c .before in
-    let in-loop = known .before .before .before .before in
-    order-refused _ _ _ _ _ _ _ (in-loop .before .loop .inv) _ (in-loop .loop-test .taken) (as-refused _ _ (sym (known .before .before .read-job .ensures) ∙ known .why .given .1))
+    let run = last known .before .loop .inv .loop in
+    let stops = as-refused _ _ (sym (known .before .before .read-job .ensures) ∙ known .why .given .1) in
+    (loop-stop run _ (last known .loop-test .taken) stops, λ jobs n e. loop-stopped run _ (last known .loop-test .taken) stops jobs n e)
 
 loop-less : tie.Need-loop-less Inv-loop μ-loop
 loop-less c = omega arith
 
 loop-again : tie.Need-loop-again Inv-loop μ-loop
-loop-again c =
-    let known = c .before in
-    let in-loop = known .before .before .before .before in
-    order-again _ _ _ _ _ _ _ (in-loop .before .loop .inv) _ _ (in-loop .loop-test .taken) (in-loop .before .before .before .before .pre) (as-value _ _ _ (sym (known .before .before .read-job .ensures) ∙ known .value .given .1))
+loop-again c = let known = c .before in order-again (turn known .before .loop .inv) _ _ (turn known .loop-test .taken) (entry known .pre .1) (job-found known)
 
 same-length-2 : tie.Need-same-length-2 Inv-loop μ-loop
 same-length-2 c = c .before .loop .inv .long
 
 returns-2 : tie.Need-returns-2 Inv-loop μ-loop
-returns-2 c = order-done _ _ _ _ _ _ _ (c .before .loop .inv) (c .loop-test .left)
+returns-2 c = let run = c .before .loop .inv .loop in (loop-done run (c .loop-test .left), loop-stored run (c .loop-test .left) refl)
 
 pub read-order-spec : {M : Type 1} → statement M
 read-order-spec =
@@ -54,7 +74,7 @@ read-order-spec =
     loop-holds
     (λ c κs. search needs)
     (λ c. search needs)
-    (λ c. search needs)
+    cast-out
     slice-write-out
     (λ c. search needs)
     same-length

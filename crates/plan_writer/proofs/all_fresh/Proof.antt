@@ -1,39 +1,58 @@
 -- `plan_writer::all_fresh` meets its contract: `Testing` is the invariant; the places left to test fall.
 -- Assumes nothing.
-use Prim.Native.Nat.{_-_}
-use mathlib.Core.Path.{sym, _∙_}
+use Prim.Native.Nat.{_+_, _-_}
+use mathlib.Core.Path.{_≡_, refl, sym, _∙_}
 use native.Mathlib.Omega.{arith}
-use Rattle.plan_writer.proofs.Testing.{Testing, test-none, test-done, test-low, test-high, test-twice, test-more}
+use native.Mathlib.Numerals.{add-one}
+use borrow.Author.Tests.{not-true, not-false}
+use lib.ListN.{getD, take}
+use lib.Seq.{getD-take, take-suc, length-take-le}
+use Rattle.fields.specs.Orders.{followedBy}
+use Rattle.fields.proofs.Testing.{Testing, test-none, test-more, test-out, test-done}
+use Rattle.plan.specs.Record.{fresh}
+use Rattle.plan.specs.Writing.{allFresh}
 use borrow.Author.Needs.{needs}
 use Rattle.plan_writer.proofs.all_fresh.Statement.{statement}
 use Rattle.plan_writer.proofs.all_fresh.Tie as tie
 
+-- the state is the front of the array
 abbrev Inv-loop : tie.InvT-loop
-Inv-loop order jobs k₀ k = Testing order jobs k
+Inv-loop order jobs k₀ k = Testing (fresh jobs) followedBy (take jobs order) jobs (allFresh jobs (take jobs order)) (take k order) k
 
 abbrev μ-loop : tie.MeasureT-loop
 μ-loop order jobs k₀ k = jobs - k
 
 loop-holds : tie.Need-loop-holds Inv-loop μ-loop
-loop-holds c = test-none _ _
+loop-holds c = test-none (length-take-le _ _ (c .before .pre)) refl
+
+-- the job tested is the next one
+abbrev turn : tie.After-is-fresh Inv-loop μ-loop → tie.In-loop Inv-loop μ-loop
+turn c = c .before
+
+abbrev entry : tie.After-is-fresh Inv-loop μ-loop → tie.Start Inv-loop μ-loop
+entry c = turn c .before .before .before
+
+next : (c : tie.After-is-fresh Inv-loop μ-loop) → getD (take (entry c .args .jobs) (entry c .args .order .now)) (turn c .before .loop .k) 0 ≡ getD (entry c .args .order .now) (turn c .before .loop .k) 0
+next c = getD-take _ _ _ 0 (turn c .loop-test .taken)
 
 returns : tie.Need-returns Inv-loop μ-loop
-returns c = test-low _ _ (c .before .before .before .before .before .pre) _ (c .before .before .before .loop .inv) (c .before .before .loop-test .taken) (c .if1 .taken)
-
-returns-2 : tie.Need-returns-2 Inv-loop μ-loop
-returns-2 c = test-high _ _ (c .before .before .before .before .before .before .pre) _ (c .before .before .before .before .loop .inv) (c .before .before .before .loop-test .taken) (c .if2 .taken)
-
-returns-3 : tie.Need-returns-3 Inv-loop μ-loop
-returns-3 c = test-twice _ _ (c .before .before .before .before .before .before .before .before .pre) _ (c .before .before .before .before .before .before .loop .inv) (c .before .before .before .before .before .loop-test .taken) (c .before .before .before .if1 .left) (c .before .before .if2 .left) (sym (c .before .stands-in .ensures) ∙ c .if3 .taken)
+returns c =
+    let call = c .before in
+    test-out (turn call .before .loop .inv) 0 _ (turn call .loop-test .taken) (next call) (sym (call .is-fresh .ensures) ∙ not-true _ (c .if1 .taken))
 
 loop-less : tie.Need-loop-less Inv-loop μ-loop
 loop-less c = omega arith
 
 loop-again : tie.Need-loop-again Inv-loop μ-loop
-loop-again c = test-more _ _ (c .before .before .before .before .before .before .before .before .pre) _ (c .before .before .before .before .before .before .loop .inv) (c .before .before .before .before .before .loop-test .taken) (c .before .before .before .if1 .left) (c .before .before .if2 .left) (sym (c .before .stands-in .ensures) ∙ c .if3 .left)
+loop-again c =
+    let call = c .before in
+    let order = entry call .args .order .now in
+    let k = turn call .before .loop .k in
+    let one : take (k + 1) order ≡ followedBy (take k order) (getD order k 0) = rw (add-one k) (take-suc order k 0 (omega (arith, entry call .pre))) in
+    rw one (test-more (turn call .before .loop .inv) 0 _ (turn call .loop-test .taken) (next call) (sym (call .is-fresh .ensures) ∙ not-false _ (c .if1 .left)))
 
-returns-4 : tie.Need-returns-4 Inv-loop μ-loop
-returns-4 c = test-done _ _ (c .before .before .before .pre) _ (c .before .loop .inv) (c .loop-test .left)
+returns-2 : tie.Need-returns-2 Inv-loop μ-loop
+returns-2 c = test-done (c .before .loop .inv) (c .loop-test .left)
 
 pub all-fresh-spec : {M : Type 1} → statement M
 all-fresh-spec =
@@ -42,13 +61,9 @@ all-fresh-spec =
     Inv-loop
     μ-loop
     loop-holds
-    (λ c. search needs)
-    (λ c. search needs)
-    returns
-    returns-2
     (λ c κs. search needs)
-    returns-3
+    returns
     (λ c. search needs)
     loop-less
     loop-again
-    returns-4)
+    returns-2)

@@ -1,44 +1,63 @@
 -- `plan_writer::write_message` meets its contract: the front, then the jobs.
 -- Assumes nothing.
-use Prim.Native.Nat.{_≤_}
-use mathlib.Core.Path.{_≡_}
-use mathlib.Core.List.{_++_}
+use Prim.Native.Nat.{ℕ, _≤_}
+use mathlib.Core.Path.{_≡_, sym, _∙_}
+use mathlib.Core.List.{List, _++_}
 use native.Mathlib.Nat.{zero-add}
 use lib.ListN.{length}
 use Rattle.fields.specs.Fields.{part, encodeAll}
+use Rattle.fields.proofs.Pieces.{Wrote, room-left, wrote-both}
+use Rattle.plan.specs.declared.Plan.{Plan}
 use Rattle.plan.specs.Writing.{message}
 use Rattle.plan_writer.specs.Fronts.{frontBytes}
-use Rattle.plan_writer.proofs.Filling.{Filled, filled-more, filled-room, front-shorter, message-parts}
+use Rattle.plan_writer.proofs.Filling.{front-first, message-parts}
 use borrow.Author.Needs.{needs}
 use Rattle.plan_writer.proofs.write_message.Statement.{statement}
 use Rattle.plan_writer.proofs.write_message.Tie as tie
 
--- an order has 60 places
-sixty : tie.Need-slice-aggregate-write-run
+abbrev jobBytes : Plan → List ℕ
+jobBytes p = encodeAll (part 0 (p .jobs) (p .order))
+
+-- the front was written
+abbrev at-front : tie.After-write-front → tie.Start
+at-front c = c .before .before .before
+
+front : (c : tie.After-write-front) → Wrote (at-front c .args .buffer .now) 0 (frontBytes (at-front c .args .plan)) (c .write-front .last .0) (c .write-front .result)
+front c = (c .write-front .ensures .0 ∙ sym (zero-add _), c .write-front .ensures .1)
+
+-- .. and the order lent
+abbrev front-of : tie.After-order2 → tie.After-write-front
+front-of c = c .before .before .before .before .before
+
+abbrev entry : tie.After-order2 → tie.Start
+entry c = at-front (front-of c)
+
+-- it has 60 places
+sixty : tie.Need-slice-aggregate-write-byte-run
 sixty c = search needs
 
-room : (c : tie.After-order2) → c .before .before .before .before .before .before .before .before .args .plan .jobs ≤ length (c .before .before .before .before .before .before .before .before .args .plan .order)
-room c = rw (← sixty c) (c .before .before .before .before .before .before .before .before .pre .0)
+room : (c : tie.After-order2) → entry c .args .plan .jobs ≤ length (entry c .args .plan .order)
+room c = rw (← sixty c) (entry c .pre .0)
 
-parts : (c : tie.After-order2) → message (c .before .before .before .before .before .before .before .before .args .plan) ≡ frontBytes (c .before .before .before .before .before .before .before .before .args .plan) ++ encodeAll (part 0 (c .before .before .before .before .before .before .before .before .args .plan .jobs) (c .before .before .before .before .before .before .before .before .args .plan .order))
+parts : (c : tie.After-order2) → message (entry c .args .plan) ≡ frontBytes (entry c .args .plan) ++ jobBytes (entry c .args .plan)
 parts c = message-parts _ (room c)
 
-front : (c : tie.After-write-front) → Filled (c .before .before .before .args .buffer .now) (frontBytes (c .before .before .before .args .plan)) (c .write-front .last .0) (c .write-front .result)
-front c = record { ends = c .write-front .ensures .0; means = c .write-front .ensures .1 }
-
 write-front-requires : tie.Need-write-front-requires
-write-front-requires c κs = front-shorter _ _ (c .before .before .pre .1)
+write-front-requires c κs = front-first _ _ (c .before .before .pre .1)
 
-write-run-requires : tie.Need-write-run-requires
-write-run-requires c κs =
+write-byte-run-requires : tie.Need-write-byte-run-requires
+write-byte-run-requires c κs =
     let lent = c .before in
-    (rw zero-add (room lent), filled-room _ _ _ _ (front (c .before .before .before .before .before .before)) _ (rw (parts lent) at (c .before .before .before .before .before .before .before .before .before .pre .1)))
+    let p = entry lent .args .plan in
+    (rw zero-add (room lent), room-left (entry lent .args .buffer .now) 0 (frontBytes p) _ _ (front (front-of lent)) (jobBytes p) (rw (zero-add, ← parts lent) (entry lent .pre .1)))
 
 returns : tie.Need-returns
 returns c =
     let run = c .before .before in
-    let w = filled-more _ _ _ _ (front (run .before .before .before .before .before .before .before)) _ _ _ (run .write-run .ensures .0) (run .write-run .ensures .1) in
-    rw (parts (run .before .before)) (w .ends, w .means)
+    let lent = run .before .before in
+    let p = entry lent .args .plan in
+    let w = wrote-both (entry lent .args .buffer .now) 0 (frontBytes p) _ _ (front (front-of lent)) (jobBytes p) _ _ (run .write-byte-run .ensures) in
+    rw (parts lent) (w .0 ∙ zero-add _, w .1)
 
 pub write-message-spec : {M : Type 1} → statement M
 write-message-spec =
@@ -47,6 +66,6 @@ write-message-spec =
     write-front-requires
     (λ c. search needs)
     (λ c. search needs)
-    write-run-requires
+    write-byte-run-requires
     (λ c. search needs)
     returns)

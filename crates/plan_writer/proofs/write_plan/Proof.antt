@@ -3,19 +3,23 @@
 use mathlib.Core.Path.{_≡_, sym, _∙_}
 use native.Mathlib.Omega.{arith}
 use Rattle.refusal.specs.declared.Verdict.the-variants.{Accepted}
-use Rattle.plan.specs.Writing.{judge}
-use Rattle.plan_laws.proofs.Theorems.{judged-valid}
-use Rattle.plan_laws.proofs.Theorems.{message-length}
-use Rattle.plan_writer.proofs.Answering.{answer-refused, answer-short, answer-written}
+use Rattle.fields.proofs.Answering.{record-refused, buffer-short, message-written}
+use Rattle.plan.specs.Writing.{message, judge, writePlan, writtenPlan}
+use Rattle.plan_laws.proofs.Theorems.{judged-valid, message-length}
 use borrow.Author.Needs.{needs}
 use Rattle.plan_writer.proofs.write_plan.Statement.{statement}
 use Rattle.plan_writer.proofs.write_plan.Tie as tie
 
-accepted : (c : tie.After-enum-told) → judge (c .before .before .before .before .args .plan) ≡ Accepted
+-- the record was accepted
+abbrev entry : tie.After-enum-told → tie.Start
+entry c = c .before .before .before .before
+
+accepted : (c : tie.After-enum-told) → judge (entry c .args .plan) ≡ Accepted
 accepted c = sym (c .before .before .judge-plan .ensures) ∙ c .enum-told .given .1
 
 returns : tie.Need-returns
-returns c = answer-short _ _ (accepted (c .before)) (c .if1 .taken)
+unfolding writePlan writtenPlan
+returns c = buffer-short 77 _ _ _ (accepted (c .before)) (c .if1 .taken)
 
 write-message-requires : tie.Need-write-message-requires
 write-message-requires c κs =
@@ -23,12 +27,19 @@ write-message-requires c κs =
     (v .jobs, omega (arith, message-length _ v))
 
 returns-2 : tie.Need-returns-2
-returns-2 c = answer-refused _ _ _ (sym (c .before .before .before .judge-plan .ensures) ∙ c .before .why .given .1)
+unfolding writePlan writtenPlan
+returns-2 c =
+    let known = c .before in
+    let p = known .before .before .before .before .args .plan in
+    record-refused 77 (judge p) (message p) _ _ (sym (known .before .before .judge-plan .ensures) ∙ known .why .given .1)
 
 returns-3 : tie.Need-returns-3
+unfolding writePlan writtenPlan
 returns-3 c =
     let call = c .before .before in
-    answer-written _ _ (accepted (call .before .before .before)) (call .before .before .if1 .left) _ _ (call .write-message .ensures .0) (call .write-message .ensures .1)
+    let long = call .before .before in
+    let args = entry (long .before) .args in
+    message-written 77 _ (message (args .plan)) (args .buffer .now) (accepted (long .before)) (long .if1 .left) _ _ (call .write-message .ensures)
 
 pub write-plan-spec : {M : Type 1} → statement M
 write-plan-spec =
