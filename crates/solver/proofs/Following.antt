@@ -2,7 +2,7 @@
 -- Assumes nothing.
 use Prim.Native.Nat.{ℕ, zero, suc, _+_, _-_, _≤_, _<_}
 use mathlib.Core.List.{List}
-use mathlib.Core.Option.{none, some}
+use mathlib.Core.Option.{none}
 use mathlib.Core.Path.{_≡_, refl, sym, ap, _∙_}
 use native.Mathlib.Numerals.{add-one}
 use native.Mathlib.Omega.{arith}
@@ -14,7 +14,7 @@ use Rattle.queue.specs.Record.{weight, Valid}
 use Rattle.sequencing.specs.Lists.{at, sum, weigh}
 use Rattle.sequencing.specs.Problem.{Problem}
 use Rattle.sequencing.specs.States.{complete, K, allLeft, jobsOf}
-use Rattle.sequencing.specs.Least.{least, argLeast}
+use Rattle.sequencing.specs.Least.{argLeast}
 use Rattle.sequencing.specs.Recursion.{value, choice, walk}
 use Rattle.sequencing.specs.Entries.{stride, digits}
 use Rattle.sequencing.proofs.Counting.{one-self}
@@ -25,8 +25,9 @@ use Rattle.jobs_left.proofs.LeftAt.{left-at, complete-digits, stride-earlier, l
 use Rattle.layout.specs.declared.Layout.{Layout}
 use Rattle.layout.specs.Prepared.{Prepared}
 use Rattle.layout.proofs.Prepared.{counts-at, stride-at, jobs-at, job-in}
+use Rattle.next_states.specs.declared.Least.{Least}
 use Rattle.solver.specs.Following.{byHandInUpto}
-use Rattle.solver.proofs.Walking.{Takes, takes-next, found-after, walkBy, walk-by, by-hand-more, by-hand-none}
+use Rattle.solver.proofs.Walking.{Chosen, Takes, takes-next, found-after, walkBy, walk-by, by-hand-more, by-hand-none}
 
 at-minus : (xs : List ℕ) (x : ℕ) → 1 ≤ x → at xs x ≡ getD xs (x - 1) 0
 at-minus xs zero h = absurd (omega arith)
@@ -147,13 +148,12 @@ module _ {q : Queue} {l : Layout} {upto : List ℕ} {index first places : ℕ} {
     )
 
     -- and the next kind found
-    module _ {job y : ℕ} (job-is : job ≡ getD (l .jobs) (getD (l .begins) (kind - 1) 0 + (getD upto (kind - 1) 0 - getD left (kind - 1) 0)) 0)
-        (y-is : (c : ℕ) → least (choice (problem q) kind (digits (allLeft (problem q)) (i - getD (l .strides) (kind - 1) 0))) (q .kinds) ≡ some c
-        → y ≡ argLeast (choice (problem q) kind (digits (allLeft (problem q)) (i - getD (l .strides) (kind - 1) 0))) (q .kinds)) where
-      next-kind : 0 < sum (complete k kind) → y ≡ argLeast (choice (problem q) kind (complete k kind)) (q .kinds)
-      next-kind s = let (c, e) = found-after (problem q) k kind takes-now s in (rw then-is at y-is) c e
+    module _ {job : ℕ} {r : Least} (job-is : job ≡ getD (l .jobs) (getD (l .begins) (kind - 1) 0 + (getD upto (kind - 1) 0 - getD left (kind - 1) 0)) 0)
+        (chosen : Chosen (problem q) kind (digits (allLeft (problem q)) (i - getD (l .strides) (kind - 1) 0)) r) where
+      next-kind : 0 < sum (complete k kind) → r .kind ≡ argLeast (choice (problem q) kind (complete k kind)) (q .kinds)
+      next-kind s = let (c, e) = found-after (problem q) k kind takes-now s in (rw then-is at chosen) .kind-is c e
 
-      takes-next-kind : 0 < sum (complete k kind) → Takes (problem q) (complete k kind) y
+      takes-next-kind : 0 < sum (complete k kind) → Takes (problem q) (complete k kind) (r .kind)
       takes-next-kind s = let (c, e) = found-after (problem q) k kind takes-now s in rw (next-kind s) (takes-next (problem q) kind (complete k kind) c e)
 
       job-taken : job ≡ at (jobsOf (problem q) kind) (at upto kind - at (complete k kind) kind)
@@ -163,12 +163,12 @@ module _ {q : Queue} {l : Layout} {upto : List ℕ} {index first places : ℕ} {
           let n : suc taken ≡ at upto kind - at (complete k kind) kind = omega (arith, here, fewer, left-within, at-minus upto kind low) in
           job-is ∙ rw (← (at-minus (l .begins) kind low)) (jobs-at (t .valid) (t .prepared) kind taken low high taken-few ∙ ap (at (jobsOf (problem q) kind)) n)
 
-      pub follow-more : Following q upto index first places (set order place job) left′ (total - getD (q .weights) (kind - 1) 0) y (i - getD (l .strides) (kind - 1) 0) (place + 1)
+      pub follow-more : Following q upto index first places (set order place job) left′ (total - getD (q .weights) (kind - 1) 0) (r .kind) (i - getD (l .strides) (kind - 1) 0) (place + 1)
       follow-more = record {
         left-is = left-then;
         weighs = weighs-then;
         within = within-then;
         gone = rw then-is (omega (arith, complete-sum k kind (takes-now .some-left), t .so-far .gone));
         takes = rw then-is takes-next-kind;
-        rest = rw (then-is, add-one place, job-taken) (ap (sets order place) (sym (by-hand-more (problem q) upto k kind y (takes-now .some-left) next-kind)) ∙ t .so-far .rest);
+        rest = rw (then-is, add-one place, job-taken) (ap (sets order place) (sym (by-hand-more (problem q) upto k kind (r .kind) (takes-now .some-left) next-kind)) ∙ t .so-far .rest);
       }

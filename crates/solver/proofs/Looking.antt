@@ -3,8 +3,7 @@
 use Prim.Native.Nat.{ℕ, suc, _-_, _≤_, _<_}
 use mathlib.Core.Bool.{cond}
 use mathlib.Core.List.{List}
-use mathlib.Core.Option.{none, some}
-use mathlib.Core.Path.{_≡_, sym, ap, _∙_}
+use mathlib.Core.Path.{_≡_, ap, _∙_}
 use native.Mathlib.Omega.{arith}
 use borrow.Author.Tests.{eq-eqb}
 use lib.Dec.{eqb}
@@ -13,8 +12,7 @@ use Rattle.queue.specs.declared.Queue.{Queue}
 use Rattle.queue.specs.Record.{weight, Valid}
 use Rattle.sequencing.specs.Lists.{sum, weigh}
 use Rattle.sequencing.specs.States.{allLeft}
-use Rattle.sequencing.specs.Least.{least, argLeast}
-use Rattle.sequencing.specs.Recursion.{W, choice}
+use Rattle.sequencing.specs.Recursion.{W}
 use Rattle.sequencing.specs.Entries.{digits, block, entries, stored}
 use Rattle.sequencing.proofs.AllJobs.{left-small}
 use Rattle.sequencing.proofs.Entries.{left-digits}
@@ -29,6 +27,7 @@ use Rattle.next_states.specs.declared.Least.{Least}
 use Rattle.next_states.specs.NextStates.{nextValues, candidate, Loadable, Ready, IsLeast}
 use Rattle.filling.specs.Filling.{Earlier}
 use Rattle.filling.proofs.Values.{Look, loadable, ready, least-is, taken-is}
+use Rattle.solver.proofs.Walking.{Chosen}
 
 -- no more jobs are left than there are
 pub few-left : {q : Queue} → Valid q → (i : ℕ) → sum (digits (allLeft (problem q)) i) ≤ 60
@@ -71,16 +70,11 @@ module _ {q : Queue} {l : Layout} {table left : List ℕ} {i : ℕ} (look : Look
       → Loadable table left (l .strides) (l .size .block) i × (Ready (nextValues table left (l .strides) (l .size .block) i) (q .gaps) row w × (q .goal ≡ 1 → w ≡ 1))
   may-look row u = (loadable look, (rw step-is (ready look row u), λ e. step ∙ rw (eq-eqb _ _ e)))
 
-  -- what is found: the recursion's next kind and its cost
-  module _ (row : ℕ) {r : Least} (found : IsLeast (candidate (nextValues table left (l .strides) (l .size .block) i) (q .gaps) row w) r) where
-    by-table : IsLeast (candidate (nextValues table left (l .strides) (l .size .block) i) (q .gaps) row (W (problem q) (digits (allLeft (problem q)) i))) r
-    by-table = rw step-is at found
-
-    pub cost-found : r .cost ≡ stored (least (choice (problem q) row (digits (allLeft (problem q)) i)) (q .kinds))
-    cost-found = by-table .cost-is ∙ ap stored (least-is look row)
-
-    pub kind-found : (c : ℕ) → least (choice (problem q) row (digits (allLeft (problem q)) i)) (q .kinds) ≡ some c → r .kind ≡ argLeast (choice (problem q) row (digits (allLeft (problem q)) i)) (q .kinds)
-    kind-found c e = by-table .kind-is c (least-is look row ∙ e) ∙ taken-is look row c e
-
-    pub none-found : least (choice (problem q) row (digits (allLeft (problem q)) i)) (q .kinds) ≡ none → r .kind ≡ 0
-    none-found e = by-table .no-kind (least-is look row ∙ e)
+  pub looked : (row : ℕ) {r : Least} → IsLeast (candidate (nextValues table left (l .strides) (l .size .block) i) (q .gaps) row w) r → Chosen (problem q) row (digits (allLeft (problem q)) i) r
+  looked row found =
+      let f = rw step-is at found in
+      record {
+        cost-is = f .cost-is ∙ ap stored (least-is look row);
+        kind-is = λ c e. f .kind-is c (least-is look row ∙ e) ∙ taken-is look row c e;
+        no-kind = λ e. f .no-kind (least-is look row ∙ e);
+      }

@@ -10,12 +10,14 @@ use Rattle.sequencing.specs.Problem.{Problem}
 use Rattle.sequencing.specs.States.{complete, K, IsLeft, jobsOf, byHandIn}
 use Rattle.sequencing.specs.Least.{least, argLeast}
 use Rattle.sequencing.specs.Recursion.{costToGo, value, choice, walk}
+use Rattle.sequencing.specs.Entries.{stored}
 use Rattle.sequencing.proofs.Equations.{cost-some-left}
 use Rattle.sequencing.proofs.Fills.{Fills}
 use Rattle.sequencing.proofs.JobsLeft.{complete-left}
 use Rattle.sequencing.proofs.Least.{smallest}
 use Rattle.sequencing.proofs.Recursion.{value-some, choice-some}
 use Rattle.sequencing.proofs.Vectors.{complete-sum, at-in}
+use Rattle.next_states.specs.declared.Least.{Least}
 use Rattle.solver.specs.Following.{byHandInUpto}
 
 pub some-cost : (r : Option ℕ) → (r ≡ none → ⊥) → (c : ℕ) × (r ≡ some c)
@@ -23,6 +25,12 @@ some-cost none h = absurd (h refl)
 some-cost (some c) h = (c, refl)
 
 module _ (P : Problem) where
+  -- the recursion's choice from (L; k) on as it is answered: its cost, and its kind, 0 where there is none
+  pub record Chosen (L : ℕ) (k : List ℕ) (r : Least) : Type 0 where
+    pub cost-is : r .cost ≡ stored (least (choice P L k) (P .N))
+    pub kind-is : (c : ℕ) → least (choice P L k) (P .N) ≡ some c → r .kind ≡ argLeast (choice P L k) (P .N)
+    pub no-kind : least (choice P L k) (P .N) ≡ none → r .kind ≡ 0
+
   -- a kind that can be taken next with k left: a job of it is left, and the state then is feasible
   pub record Takes (k : List ℕ) (x : ℕ) : Type 0 where
     pub low : 1 ≤ x

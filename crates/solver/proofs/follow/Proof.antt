@@ -1,0 +1,186 @@
+-- `solver::follow` meets its contract: at each place the order so far, with the jobs still to be followed behind it, is the share's.
+-- Assumes nothing.
+use Prim.Native.Nat.{_-_, _≤_, _<_}
+use mathlib.Core.Path.{_≡_, sym}
+use native.Mathlib.Omega.{arith}
+use lib.ListN.{length, getD}
+use Rattle.layout.proofs.Prepared.{begins-long, jobs-long, strides-long}
+use Rattle.filling.proofs.Values.{Look}
+use Rattle.solver.proofs.Looking.{few-left, may-weigh, weighed, whole, may-look, looked}
+use Rattle.solver.proofs.Following.{Following, Turn, follow-none, follow-done, takes-now, job-left, left-within, job-there, stride-within, weight-within, left-then, weighs-then, follow-more}
+use borrow.Author.Needs.{needs}
+use Rattle.solver.proofs.follow.Statement.{statement}
+use Rattle.solver.proofs.follow.Tie as tie
+
+abbrev Inv-loop : tie.InvT-loop
+Inv-loop queue table index first places upto size gaps weights jobs begins strides order₀ left₀ weight₀ kind₀ at₀ place₀ order left weight kind at place =
+    Following queue upto index first places order left weight kind at place
+
+abbrev μ-loop : tie.MeasureT-loop
+μ-loop queue table index first places upto size gaps weights jobs begins strides order₀ left₀ weight₀ kind₀ at₀ place₀ order left weight kind at place = places - place
+
+-- the places: the function's entry, a turn, and the turn with its job taken
+abbrev copied : tie.After-begins Inv-loop μ-loop → tie.Start Inv-loop μ-loop
+copied c = c .before .before .before .before .before .before
+
+abbrev entry : tie.At-loop Inv-loop μ-loop → tie.Start Inv-loop μ-loop
+entry c = copied (c .before .before .before .before .before)
+
+abbrev turn : tie.In-loop Inv-loop μ-loop → tie.At-loop Inv-loop μ-loop
+turn c = c .before
+
+abbrev taking : tie.After-jobs2 Inv-loop μ-loop → tie.In-loop Inv-loop μ-loop
+taking c = c .before .before .before .before
+
+abbrev taken : tie.After-left3 Inv-loop μ-loop → tie.In-loop Inv-loop μ-loop
+taken c = taking (c .before .before)
+
+abbrev looking : tie.After-step-weight Inv-loop μ-loop → tie.After-left3 Inv-loop μ-loop
+looking c = c .before .before .before .before
+
+-- the arrays of the queue (the parameter `upto` is `t5`)
+sized : (c : tie.Start Inv-loop μ-loop) → (length (c .args .queue .weights) ≡ 5) × ((length (c .args .queue .gaps) ≡ 30) × (length (c .args .t5) ≡ 5))
+sized c = (search needs, (search needs, search needs))
+
+turn-of : (c : tie.In-loop Inv-loop μ-loop)
+    → let e = entry (turn c) .args in let t = turn c .loop in
+    Turn (e .queue) (e .layout) (e .t5) (e .index) (e .first) (e .places) (t .order) (t .left) (t .weight) (t .kind) (t .at) (t .place)
+turn-of c =
+    let p = entry (turn c) .pre in
+    record {
+      valid = p .0;
+      prepared = p .1 .0;
+      few = λ j a b. p .1 .1 .1 .1 .1 .0 j a b .1;
+      so-far = turn c .loop .inv;
+      more = c .loop-test .taken;
+    }
+
+kind-in : (c : tie.In-loop Inv-loop μ-loop) → (1 ≤ turn c .loop .kind) × (turn c .loop .kind ≤ 5)
+kind-in c = let t = takes-now (turn-of c) in (t .low, omega (arith, t .high, entry (turn c) .pre .0 .kinds))
+
+place-in : (c : tie.In-loop Inv-loop μ-loop) → turn c .loop .place < 60
+place-in c = let e = entry (turn c) in omega (arith, c .loop-test .taken, few-left (e .pre .0) (e .args .index), e .pre .1 .1 .1 .1 .1 .1 .0)
+
+look : (c : tie.After-left3 Inv-loop μ-loop) → let t = turn (taken c) in
+    Look (entry t .args .queue) (entry t .args .layout) (entry t .args .table .now) (c .before .take-job .last .0) (t .loop .at - getD (entry t .args .layout .strides) (t .loop .kind - 1) 0)
+look c =
+    let e = entry (turn (taken c)) in
+    whole (e .pre .0) (e .pre .1 .0) (left-then (turn-of (taken c)) (c .before .take-job .ensures .1)) (sized e .1 .0) (e .pre .1 .1 .0) (e .pre .1 .1 .1 .0)
+
+slice-aggregate-weight-left-2 : tie.Need-slice-aggregate-weight-left-2 Inv-loop μ-loop
+slice-aggregate-weight-left-2 c = sym (sized (copied (c .before .before .before)) .0)
+
+weight-left-requires : tie.Need-weight-left-requires Inv-loop μ-loop
+weight-left-requires c κs = let e = copied (c .before .before .before) in may-weigh (e .pre .0) (e .pre .1 .0) (e .pre .1 .1 .1 .1 .0) (sized e .0)
+
+loop-holds : tie.Need-loop-holds Inv-loop μ-loop
+loop-holds c =
+    let p = copied (c .before .before .before .before) .pre in
+    let w = p .1 .1 .1 .1 .0 in
+    follow-none w (weighed (p .0) (p .1 .0) w (c .weight-left .ensures)) (λ j a b. p .1 .1 .1 .1 .1 .0 j a b .0) (p .1 .1 .1 .1 .1 .1 .0) (p .1 .1 .1 .1 .1 .1 .1)
+
+slice-aggregate-take-job-3 : tie.Need-slice-aggregate-take-job-3 Inv-loop μ-loop
+slice-aggregate-take-job-3 c = let t = turn-of (c .before .before .before) in sym (begins-long (t .valid) (t .prepared))
+
+slice-aggregate-take-job-4 : tie.Need-slice-aggregate-take-job-4 Inv-loop μ-loop
+slice-aggregate-take-job-4 c = let t = turn-of (taking c) in sym (jobs-long (t .valid) (t .prepared))
+
+sub-take-job : tie.Need-sub-take-job Inv-loop μ-loop
+sub-take-job c = kind-in (taking c) .0
+
+take-job-requires : tie.Need-take-job-requires Inv-loop μ-loop
+take-job-requires c κs =
+    let e = entry (turn (taking c)) in
+    let t = turn-of (taking c) in
+    let inside = kind-in (taking c) in
+    (omega (arith, inside), (t .so-far .left-is .long, (sized e .1 .1, (begins-long (t .valid) (t .prepared), (job-left t, (left-within t, omega (arith, job-there t, jobs-long (t .valid) (t .prepared))))))))
+
+array-write-order : tie.Need-array-write-order Inv-loop μ-loop
+array-write-order c = place-in (taken c)
+
+sub-at : tie.Need-sub-at Inv-loop μ-loop
+sub-at c = kind-in (taken c) .0
+
+mul-at : tie.Need-mul-at Inv-loop μ-loop
+mul-at c = record { fits = omega (arith, kind-in (taken c)) }
+
+array-read-at : tie.Need-array-read-at Inv-loop μ-loop
+array-read-at c = omega (arith, kind-in (taken c))
+
+sub-at-2 : tie.Need-sub-at-2 Inv-loop μ-loop
+sub-at-2 c = stride-within (turn-of (taken c))
+
+sub-weight : tie.Need-sub-weight Inv-loop μ-loop
+sub-weight c = kind-in (taken c) .0
+
+mul-weight : tie.Need-mul-weight Inv-loop μ-loop
+mul-weight c = record { fits = omega (arith, kind-in (taken c)) }
+
+array-read-weight : tie.Need-array-read-weight Inv-loop μ-loop
+array-read-weight c = omega (arith, kind-in (taken c))
+
+cast-weight : tie.Need-cast-weight Inv-loop μ-loop
+cast-weight c = let t = turn-of (taken c) in omega (arith, t .valid .weights _ (takes-now t .low) (takes-now t .high))
+
+sub-weight-2 : tie.Need-sub-weight-2 Inv-loop μ-loop
+sub-weight-2 c = weight-within (turn-of (taken c))
+
+slice-aggregate-best-next-2 : tie.Need-slice-aggregate-best-next-2 Inv-loop μ-loop
+slice-aggregate-best-next-2 c = let t = turn-of (taken (c .before .before)) in sym (strides-long (t .valid) (t .prepared))
+
+slice-aggregate-best-next-3 : tie.Need-slice-aggregate-best-next-3 Inv-loop μ-loop
+slice-aggregate-best-next-3 c = sym (sized (entry (turn (taken (c .before .before .before)))) .1 .0)
+
+best-next-requires : tie.Need-best-next-requires Inv-loop μ-loop
+best-next-requires c κs =
+    let t = turn-of (taken (looking c)) in
+    may-look (look (looking c)) (weighs-then t (looking c .before .take-job .ensures .1)) (c .step-weight .ensures) _ (takes-now t .high)
+
+add-place : tie.Need-add-place Inv-loop μ-loop
+add-place c = record { fits = omega (arith, place-in (taken (looking (c .before)))) }
+
+loop-again : tie.Need-loop-again Inv-loop μ-loop
+loop-again c =
+    let d = looking (c .before) in
+    let t = turn-of (taken d) in
+    let fewer = d .before .take-job .ensures .1 in
+    follow-more t fewer (d .before .take-job .ensures .0) (looked (look d) (weighs-then t fewer) (c .before .step-weight .ensures) _ (c .best-next .ensures))
+
+returns : tie.Need-returns Inv-loop μ-loop
+returns c = follow-done (c .before .loop .inv) (c .loop-test .left)
+
+pub follow-spec : {M : Type 1} → statement M
+follow-spec =
+    tie.close
+    (tie.spec
+    Inv-loop
+    μ-loop
+    (λ c. search needs)
+    slice-aggregate-weight-left-2
+    weight-left-requires
+    loop-holds
+    (λ c. search needs)
+    (λ c. search needs)
+    slice-aggregate-take-job-3
+    slice-aggregate-take-job-4
+    sub-take-job
+    take-job-requires
+    array-write-order
+    sub-at
+    mul-at
+    array-read-at
+    sub-at-2
+    sub-weight
+    mul-weight
+    array-read-weight
+    cast-weight
+    sub-weight-2
+    (λ c. search needs)
+    slice-aggregate-best-next-2
+    slice-aggregate-best-next-3
+    (λ c κs. search needs)
+    best-next-requires
+    add-place
+    (λ c. search needs)
+    loop-again
+    returns)
