@@ -8,7 +8,7 @@ use native.Mathlib.Nat.{add-zero}
 use lib.ListN.{length, set, length-set}
 use lib.Seq.{sets}
 use Rattle.refusal.specs.declared.Reason.{Reason}
-use Rattle.number.specs.Readers.{Found, found, refused, Reader, andThen, times}
+use Rattle.number.specs.Readers.{found, refused, Reader, andThen, times}
 use Rattle.number.proofs.Steps.{went-on, found-value}
 use Rattle.fields.specs.declared.Outcome.the-variants.{Next, Refused as Stopped}
 use Rattle.fields.specs.Fields.{readBefore}
@@ -39,14 +39,6 @@ module _ (one : Reader ℕ) (s : List ℕ) where
       let (v, k, f, p) = went-on (one s i) (λ a m. andThen (times n one s m) (λ more l. found (a ∷ more) l)) vs j e in
       let (more, l, g, q) = went-on (times n one s k) (λ more l. found (v ∷ more) l) vs j p in
       rw (f, before-found n k more l g) (found-value (v ∷ more) vs l j q)
-
-pub times-length : {A : Type 0} (one : Reader A) (s : List ℕ) (n i : ℕ) (vs : List A) (j : ℕ) → times n one s i ≡ found vs j → length vs ≡ n
-unfolding times
-times-length one s zero i vs j e = rw (← (found-value [] vs i j e))
-times-length one s (suc n) i vs j e =
-    let (v, k, f, p) = went-on (one s i) (λ a m. andThen (times n one s m) (λ more l. found (a ∷ more) l)) vs j e in
-    let (more, l, g, q) = went-on (times n one s k) (λ more l. found (v ∷ more) l) vs j p in
-    rw (← (found-value (v ∷ more) vs l j q)) (ap suc (times-length one s n k more l g))
 
 -- the loop before number k, at position i
 pub record Running (one : Reader ℕ) (s : List ℕ) (count at : ℕ) (out₀ : List ℕ) (from : ℕ) (out : List ℕ) (i k : ℕ) : Type 0 where

@@ -1,17 +1,15 @@
--- Lists by their elements: `tabulate`, parts of an array, and arrays that hold a list.
+-- Lists by their elements: `tabulate`, and parts of an array.
 -- Assumes nothing.
 use Prim.Native.Nat.{ℕ, zero, suc, _+_, _-_, _<_, _≤_}
-use mathlib.Core.Path.{_≡_, refl, ap, ap₂, _∙_}
-use mathlib.Core.Bool.{Bool, true}
+use mathlib.Core.Path.{_≡_, refl, sym, ap, ap₂, _∙_}
 use mathlib.Core.List.{List, [], _∷_, _++_, append-assoc}
 use native.Mathlib.Omega.{arith}
 use native.Mathlib.Nat.{add-zero, eq-or-lt-of-le}
 use mathlib.Core.Logic.{inl, inr}
 use lib.ListN.{length, getD, take, drop}
 use lib.Seq.{sets, sets-eq, drop-cons, take-at, drop-at, length-take-le}
-use Rattle.fields.specs.Fields.{all, part}
+use Rattle.fields.specs.Fields.{part}
 use Rattle.fields.specs.Lists.{tabulate}
-use Rattle.fields.proofs.Judged.{and-true}
 use Rattle.fields.proofs.Codecs.{All}
 
 module _ {A : Type 0} (f : ℕ → A) where
@@ -19,6 +17,12 @@ module _ {A : Type 0} (f : ℕ → A) where
   unfolding tabulate
   length-tabulate i zero = refl
   length-tabulate i (suc n) = ap suc (length-tabulate (suc i) n)
+
+  pub tabulate-at : (d : A) (i n k : ℕ) → k < n → getD (tabulate f i n) k d ≡ f (i + k)
+  unfolding tabulate
+  tabulate-at d i zero k h = absurd (omega arith)
+  tabulate-at d i (suc n) zero h = ap f (sym (add-zero i))
+  tabulate-at d i (suc n) (suc k) h = tabulate-at d (suc i) n k (omega arith) ∙ ap f (omega arith)
 
   pub tabulate-ext : (g : ℕ → A) (i n : ℕ) → ((k : ℕ) → i ≤ k → k < i + n → f k ≡ g k) → tabulate f i n ≡ tabulate g i n
   unfolding tabulate
@@ -37,17 +41,6 @@ module _ {A : Type 0} (f : ℕ → A) where
     | inl e ↦ rw (← e) (h .0)
     | inr m ↦ tabulate-all P (suc i) n (h .1) k m (omega arith)
   ]
-
--- a test of all of a list is the test of each
-pub all-true : {A : Type 0} (ok : A → Bool) (xs : List A) → all ok xs ≡ true → All (λ a. ok a ≡ true) xs
-unfolding all
-all-true ok [] e = tt
-all-true ok (a ∷ xs) e = let q = and-true (ok a) (all ok xs) e in (q .0, all-true ok xs (q .1))
-
-pub true-all : {A : Type 0} (ok : A → Bool) (xs : List A) → All (λ a. ok a ≡ true) xs → all ok xs ≡ true
-unfolding all
-true-all ok [] h = refl
-true-all ok (a ∷ xs) h = rw (h .0, true-all ok xs (h .1))
 
 -- the values at positions from, from + 1, .. of an array
 part-from : (vs : List ℕ) (from i n : ℕ) → from + i + n ≤ length vs → tabulate (λ j. getD vs (from + (j - 1)) 0) (suc i) n ≡ part (from + i) n vs

@@ -1,30 +1,24 @@
 -- The jobs of a record as a list, and the record that holds a list.
 -- Assumes nothing.
-use Prim.Native.Nat.{ℕ, zero, suc, _+_, _-_, _<_, _≤_}
+use Prim.Native.Nat.{ℕ, _+_, _-_, _<_, _≤_}
 use mathlib.Core.Path.{_≡_, sym, ap, _∙_}
 use mathlib.Core.List.{List}
 use native.Mathlib.Omega.{arith}
-use native.Mathlib.Nat.{zero-add, add-zero}
+use native.Mathlib.Nat.{zero-add}
 use lib.ListN.{length, getD}
 use Rattle.fields.specs.Fields.{part}
 use Rattle.fields.specs.Lists.{tabulate}
-use Rattle.fields.proofs.Tables.{length-tabulate, tabulate-ext, tabulate-part}
+use Rattle.fields.proofs.Tables.{length-tabulate, tabulate-at, tabulate-ext, tabulate-part}
 use Rattle.fields.proofs.Arrays.{tabulate-filled, filled-past}
 use Rattle.plan.specs.declared.Plan.{Plan}
 use Rattle.plan.specs.Record.{job, jobList}
 use Rattle.plan.specs.Reading.{planOf, cleared}
 use Rattle.plan.specs.Writing.{message}
 
-getD-tabulate : (f : ℕ → ℕ) (i n k : ℕ) → k < n → getD (tabulate f i n) k 0 ≡ f (i + k)
-unfolding tabulate
-getD-tabulate f i zero k h = absurd (omega arith)
-getD-tabulate f i (suc n) zero h = ap f (sym (add-zero i))
-getD-tabulate f i (suc n) (suc k) h = getD-tabulate f (suc i) n k (omega arith) ∙ ap f (omega arith)
-
 pub job-listed : (p : Plan) (place : ℕ) → 1 ≤ place → place ≤ p .jobs → getD (jobList p) (place - 1) 0 ≡ job p place
 job-listed p place l u =
     let e : 1 + (place - 1) ≡ place = omega arith in
-    getD-tabulate (job p) 1 (p .jobs) (place - 1) (omega arith) ∙ ap (job p) e
+    tabulate-at (job p) 0 1 (p .jobs) (place - 1) (omega arith) ∙ ap (job p) e
 
 pub job-list-length : (p : Plan) → length (jobList p) ≡ p .jobs
 job-list-length p = length-tabulate (job p) 1 (p .jobs)

@@ -1,11 +1,7 @@
 -- `plan_writer::is_fresh` meets its contract: the range, then the earlier places.
 -- Assumes nothing.
-use mathlib.Core.Path.{_≡_, sym, ap, _∙_}
-use mathlib.Core.Bool.{Bool, _&&_, not}
+use mathlib.Core.Path.{sym, _∙_}
 use borrow.Author.Tests.{not-true, not-false}
-use lib.ListN.{getD, take}
-use Rattle.fields.specs.Fields.{within}
-use Rattle.fields.specs.Lists.{standsIn}
 use borrow.Author.Needs.{needs}
 use Rattle.plan_writer.proofs.is_fresh.Statement.{statement}
 use Rattle.plan_writer.proofs.is_fresh.Tie as tie

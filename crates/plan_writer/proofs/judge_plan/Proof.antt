@@ -1,9 +1,9 @@
 -- `plan_writer::judge_plan` meets its contract: one check of the definition after the other.
 -- Assumes nothing.
 use Prim.Native.Nat.{_-_, _^_, _≤_}
-use mathlib.Core.Bool.{Bool, true, false}
+use mathlib.Core.Bool.{true}
 use mathlib.Core.Path.{_≡_, sym, _∙_}
-use lib.ListN.{length, take}
+use lib.ListN.{length}
 use borrow.Author.Tests.{not-true, not-false}
 use Rattle.fields.specs.Fields.{within}
 use Rattle.fields.proofs.Judged.{within-true}
