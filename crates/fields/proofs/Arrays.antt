@@ -4,20 +4,19 @@ use Prim.Native.Nat.{ℕ, zero, suc, _+_, _-_, _<_, _≤_}
 use mathlib.Core.Path.{_≡_, refl, sym, ap, ap₂, _∙_}
 use mathlib.Core.List.{List, [], _∷_, map}
 use native.Mathlib.Omega.{arith}
-use native.Mathlib.Nat.{zero-add}
 use lib.ListN.{length, getD, take, set, replicate, length-replicate}
 use lib.Seq.{sets, length-sets, take-set-le, getD-set-other}
+use Rattle.fields.specs.Fields.{part}
 use Rattle.fields.specs.Lists.{tabulate, filled}
-use Rattle.fields.proofs.Tables.{tabulate-ext, tabulate-part, part-sets}
+use Rattle.fields.proofs.Tables.{tabulate-ext, list-part, part-sets}
 
--- an array of m gives back the list that it holds
-pub tabulate-filled : (m : ℕ) (vs : List ℕ) → length vs ≤ m → tabulate (λ j. getD (filled m vs) (j - 1) 0) 1 (length vs) ≡ vs
-tabulate-filled m vs h =
+-- an array of m gives back the n numbers that it was filled with
+pub array-back : (m n : ℕ) (vs : List ℕ) → length vs ≡ n → n ≤ m → tabulate (λ j. getD (filled m vs) (j - 1) 0) 1 n ≡ vs
+array-back m n vs long few =
     let zeros : List ℕ = replicate m 0 in
-    let room : 0 + length vs ≤ length zeros = omega (arith, length-replicate {A = ℕ} m 0) in
-    tabulate-ext (λ j. getD (filled m vs) (j - 1) 0) (λ j. getD (filled m vs) (0 + (j - 1)) 0) 1 (length vs) (λ k l u. ap (λ (i : ℕ). getD (filled m vs) i 0) (sym (zero-add (k - 1))))
-    ∙ tabulate-part (filled m vs) 0 (length vs) (omega (arith, length-sets zeros 0 vs))
-    ∙ part-sets zeros 0 vs room
+    list-part (filled m vs) n (omega (arith, length-sets zeros 0 vs, length-replicate {A = ℕ} m 0))
+    ∙ ap (λ (k : ℕ). part 0 k (filled m vs)) (sym long)
+    ∙ part-sets zeros 0 vs (omega (arith, length-replicate {A = ℕ} m 0))
 
 -- two lists side by side
 pub tabulate-pairs : (f g : ℕ → ℕ) (i n : ℕ) (ws : List (ℕ × ℕ)) → tabulate f i n ≡ map (λ w. w .0) ws → tabulate g i n ≡ map (λ w. w .1) ws

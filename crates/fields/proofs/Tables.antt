@@ -2,9 +2,9 @@
 -- Assumes nothing.
 use Prim.Native.Nat.{ℕ, zero, suc, _+_, _-_, _<_, _≤_}
 use mathlib.Core.Path.{_≡_, refl, sym, ap, ap₂, _∙_}
-use mathlib.Core.List.{List, [], _∷_, _++_, append-assoc}
+use mathlib.Core.List.{List, _∷_, _++_, append-assoc}
 use native.Mathlib.Omega.{arith}
-use native.Mathlib.Nat.{add-zero, eq-or-lt-of-le}
+use native.Mathlib.Nat.{zero-add, add-zero, eq-or-lt-of-le}
 use mathlib.Core.Logic.{inl, inr}
 use lib.ListN.{length, getD, take, drop}
 use lib.Seq.{sets, sets-eq, drop-cons, take-at, drop-at, length-take-le}
@@ -53,6 +53,12 @@ part-from vs from i (suc n) h =
 
 pub tabulate-part : (vs : List ℕ) (from n : ℕ) → from + n ≤ length vs → tabulate (λ j. getD vs (from + (j - 1)) 0) 1 n ≡ part from n vs
 tabulate-part vs from n h = part-from vs from 0 n (omega arith) ∙ ap (λ (k : ℕ). part k n vs) (add-zero from)
+
+-- .. from its beginning on
+pub list-part : (vs : List ℕ) (n : ℕ) → n ≤ length vs → tabulate (λ j. getD vs (j - 1) 0) 1 n ≡ part 0 n vs
+list-part vs n h =
+    tabulate-ext (λ j. getD vs (j - 1) 0) (λ j. getD vs (0 + (j - 1)) 0) 1 n (λ k l u. ap (λ (i : ℕ). getD vs i 0) (sym (zero-add (k - 1))))
+    ∙ tabulate-part vs 0 n (omega arith)
 
 -- what was stored is there
 pub part-sets : (l : List ℕ) (from : ℕ) (vs : List ℕ) → from + length vs ≤ length l → part from (length vs) (sets l from vs) ≡ vs

@@ -4,12 +4,10 @@ use Prim.Native.Nat.{ℕ, _+_, _-_, _<_, _≤_}
 use mathlib.Core.Path.{_≡_, sym, ap, _∙_}
 use mathlib.Core.List.{List}
 use native.Mathlib.Omega.{arith}
-use native.Mathlib.Nat.{zero-add}
 use lib.ListN.{length, getD}
 use Rattle.fields.specs.Fields.{part}
-use Rattle.fields.specs.Lists.{tabulate}
-use Rattle.fields.proofs.Tables.{length-tabulate, tabulate-at, tabulate-ext, tabulate-part}
-use Rattle.fields.proofs.Arrays.{tabulate-filled, filled-past}
+use Rattle.fields.proofs.Tables.{length-tabulate, tabulate-at, list-part}
+use Rattle.fields.proofs.Arrays.{array-back, filled-past}
 use Rattle.plan.specs.declared.Plan.{Plan}
 use Rattle.plan.specs.Record.{job, jobList}
 use Rattle.plan.specs.Reading.{planOf, cleared}
@@ -25,14 +23,11 @@ job-list-length p = length-tabulate (job p) 1 (p .jobs)
 
 -- where the array holds them all, the front of the array
 pub job-list-part : (p : Plan) → p .jobs ≤ length (p .order) → jobList p ≡ part 0 (p .jobs) (p .order)
-job-list-part p h =
-    tabulate-ext (job p) (λ j. getD (p .order) (0 + (j - 1)) 0) 1 (p .jobs) (λ k _ _. ap (λ (i : ℕ). getD (p .order) i 0) (sym (zero-add (k - 1))))
-    ∙ tabulate-part (p .order) 0 (p .jobs) (omega arith)
+job-list-part p h = list-part (p .order) (p .jobs) h
 
 -- a record that holds a list of jobs holds no others
 pub held : (goal cost states t : ℕ) (js : List ℕ) → length js ≡ t → t ≤ 60 → jobList (planOf goal cost states t js) ≡ js
-held goal cost states t js e h =
-    ap (λ (n : ℕ). tabulate (job (planOf goal cost states t js)) 1 n) (sym e) ∙ tabulate-filled 60 js (omega arith)
+held goal cost states t js e h = array-back 60 t js e h
 
 -- ---- 0 past T
 

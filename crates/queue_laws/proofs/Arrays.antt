@@ -1,14 +1,15 @@
 -- The record's lists as parts of its arrays.
 -- Assumes nothing.
 use Prim.Native.Nat.{ℕ, _+_, _-_, _*_, _≤_}
-use mathlib.Core.Path.{_≡_, sym, ap, _∙_}
+use mathlib.Core.Path.{_≡_, ap, _∙_}
 use mathlib.Core.List.{List}
 use native.Mathlib.Omega.{arith}
 use native.Mathlib.Nat.{zero-add}
 use lib.ListN.{length, getD}
 use Rattle.fields.specs.Fields.{part}
 use Rattle.fields.specs.Lists.{tabulate}
-use Rattle.fields.proofs.Tables.{tabulate-ext, tabulate-part}
+use Rattle.fields.proofs.Tables.{tabulate-part}
+pub use Rattle.fields.proofs.Tables.{list-part}
 use Rattle.queue.specs.declared.Queue.{Queue}
 
 -- gap row i
@@ -24,12 +25,6 @@ windowPair first last j = (getD first (j - 1) 0, getD last (j - 1) 0)
 
 pub pair-at : (first last : List ℕ) (i : ℕ) → windowPair first last (1 + i) ≡ (getD first i 0, getD last i 0)
 pair-at first last i = let e : 1 + i - 1 ≡ i = omega arith in rw e
-
--- numbers that stand from the array's beginning
-pub list-part : (vs : List ℕ) (n : ℕ) → n ≤ length vs → tabulate (λ j. getD vs (j - 1) 0) 1 n ≡ part 0 n vs
-list-part vs n h =
-    tabulate-ext (λ j. getD vs (j - 1) 0) (λ j. getD vs (0 + (j - 1)) 0) 1 n (λ k l u. ap (λ (i : ℕ). getD vs i 0) (sym (zero-add (k - 1))))
-    ∙ tabulate-part vs 0 n (omega arith)
 
 -- the lengths of a record's arrays, which its type promises
 pub record Sized (q : Queue) : Type 0 where

@@ -1,7 +1,7 @@
 -- The definitions of the queue message are its format's, of a record's parts; so the laws of formats hold of them.
 -- Assumes nothing.
 use Prim.Native.Nat.{ℕ, _+_, _-_, _^_, _<_, _≤_}
-use mathlib.Core.Path.{_≡_, refl, sym, ap, _∙_}
+use mathlib.Core.Path.{_≡_, refl, _∙_}
 use mathlib.Core.List.{List, [], _∷_, _++_, map, flatMap, append-assoc}
 use native.Mathlib.Omega.{arith}
 use lib.ListN.{length, getD, length-map}
@@ -11,7 +11,7 @@ use Rattle.refusal.specs.declared.Verdict.the-variants.{Accepted}
 use Rattle.fields.specs.Lists.{tabulate, filled}
 use Rattle.fields.proofs.Codecs.{All, all-map}
 use Rattle.fields.proofs.Tables.{length-tabulate, all-tabulate, tabulate-all}
-use Rattle.fields.proofs.Arrays.{tabulate-filled, tabulate-pairs}
+use Rattle.fields.proofs.Arrays.{array-back, tabulate-pairs}
 use Rattle.queue.specs.declared.Queue.{Queue}
 use Rattle.queue.specs.Record.{gap, weight, firstPlace, lastPlace, kind, rows, weightList, windows, kindList, Valid, Fits}
 use Rattle.queue.specs.Reading.{settings, tables, head, headOf, withJobs, jobs, queue, cleared}
@@ -60,10 +60,6 @@ unfolding judgeSettings
 few-kinds q e = settingsFormat {Given = Unit {0}} .accepts tt (view q .1 .0) (tt, (tt, (tt, tt))) .0 e .0 .1
 
 -- ---- a record made of parts holds them
-
--- an array gives back the n numbers that it was filled with
-array-back : (m n : ℕ) (vs : List ℕ) → length vs ≡ n → n ≤ m → tabulate (λ j. getD (filled m vs) (j - 1) 0) 1 n ≡ vs
-array-back m n vs long few = ap (tabulate (λ j. getD (filled m vs) (j - 1) 0) 1) (sym long) ∙ tabulate-filled m vs (omega arith)
 
 -- as many of each table's numbers as N says, in arrays that hold them
 pub record TablesFit (p : Parts) : Type 0 where
