@@ -1,9 +1,18 @@
 // What is prepared once a call: N, T and P, the jobs of each kind, the places permitted to them, and the numbering of the table's entries.
 use queue::Queue;
+ghost use mathlib.Core.List.{map};
 ghost use mathlib.Core.Path.{_≡_};
-ghost use Prim.Native.Nat.{_*_, _^_, _<_};
+ghost use Prim.Native.Nat.{ℕ, min, max, _+_, _-_, _*_, _^_, _<_, _≤_};
+ghost use lib.ListN.{length, getD, take};
+ghost use lib.Seq.{sets};
+ghost use Rattle.fields.specs.Lists.{tabulate};
 ghost use Rattle.queue.specs.Record.{Valid};
-ghost use Rattle.layout.specs.Prepared.{Prepared};
+ghost use Rattle.sequencing.specs.Lists.{upto};
+ghost use Rattle.sequencing.specs.States.{allLeft};
+ghost use Rattle.sequencing.specs.Entries.{size, stride};
+ghost use Rattle.problem.specs.OfQueue.{problem};
+ghost use Rattle.layout.specs.Steps.{ofKind, Listed, earliestOf, latestOf};
+ghost use Rattle.layout.specs.Prepared.{byKind, beginOf, bySlot, slotOf, earliestAt, latestAt, Prepared};
 
 // 01's N, T and P.
 pub struct Size {
@@ -29,7 +38,11 @@ pub struct Layout {
 }
 
 // Lists the jobs of a kind by hand-in, from `from` on; returns the position behind them.
-fn list_kind(job_kinds: &[u8], total: usize, kind: u8, jobs: &mut [u8], from: usize) -> usize {
+fn list_kind(job_kinds: &[u8], total: usize, kind: u8, jobs: &mut [u8], from: usize) -> usize
+    requires { ⌜ (total ≤ length (now «job_kinds»)) × (total ≤ 60) × (from + length (ofKind (now «job_kinds») total kind) ≤ length (now jobs)) ⌝ }
+    ensures { λ r. ⌜ r ≡ from + length (ofKind (now («job_kinds» .entry)) total kind) ⌝ }
+    ensures { λ _. ⌜ now (jobs .exit) ≡ sets (now (jobs .entry)) from (ofKind (now («job_kinds» .entry)) total kind) ⌝ }
+{
     let mut at = from;
     let mut i: usize = 0;
     while i < total {
@@ -43,18 +56,19 @@ fn list_kind(job_kinds: &[u8], total: usize, kind: u8, jobs: &mut [u8], from: us
 }
 
 // Lists and counts the jobs kind by kind.
-fn list_jobs(
-    job_kinds: &[u8],
-    total: usize,
-    kinds: usize,
-    counts: &mut [u32],
-    jobs: &mut [u8],
-    begins: &mut [u32],
-) {
+fn list_jobs(queue: Queue, counts: &mut [u32], jobs: &mut [u8], begins: &mut [u32])
+    requires { ⌜ Valid queue × (length (now counts) ≡ 5) × (length (now jobs) ≡ 60) × (length (now begins) ≡ 5) ⌝ }
+    ensures { λ _. ⌜ now (counts .exit) ≡ sets (now (counts .entry)) 0 (allLeft (problem queue)) ⌝ }
+    ensures { λ _. ⌜ now (jobs .exit) ≡ sets (now (jobs .entry)) 0 (byKind (problem queue)) ⌝ }
+    ensures { λ _. ⌜ now (begins .exit) ≡ sets (now (begins .entry)) 0 (map (beginOf (problem queue)) (upto (queue .kinds))) ⌝ }
+{
+    let job_kinds = queue.job_kinds;
+    let total = queue.jobs as usize;
+    let kinds = queue.kinds as usize;
     let mut at: usize = 0;
     let mut kind: usize = 0;
     while kind < kinds {
-        let end = list_kind(job_kinds, total, kind as u8 + 1, jobs, at);
+        let end = list_kind(&job_kinds, total, kind as u8 + 1, jobs, at);
         begins[kind] = at as u32;
         counts[kind] = (end - at) as u32;
         at = end;
@@ -63,7 +77,9 @@ fn list_jobs(
 }
 
 // The first place that a_j and the shift permit.
-fn earliest_place(job: u8, first: u8, max_shift: u32) -> u8 {
+fn earliest_place(job: u8, first: u8, max_shift: u32) -> u8
+    ensures { λ r. ⌜ r ≡ max first (job - «max_shift») ⌝ }
+{
     let i = job as u32;
     if i <= max_shift {
         return first;
@@ -75,7 +91,9 @@ fn earliest_place(job: u8, first: u8, max_shift: u32) -> u8 {
 }
 
 // The last place that b_j and the shift permit. The sum is made only where it is below b_j, so that it fits.
-fn latest_place(job: u8, last: u8, max_shift: u32) -> u8 {
+fn latest_place(job: u8, last: u8, max_shift: u32) -> u8
+    ensures { λ r. ⌜ r ≡ min last (job + «max_shift») ⌝ }
+{
     if last <= job {
         return last;
     }
@@ -85,7 +103,7 @@ fn latest_place(job: u8, last: u8, max_shift: u32) -> u8 {
     job + max_shift as u8
 }
 
-// The slots of one kind: with n left, the (count - n)th job's.
+// The slots of one kind: with n left, the (count - n)th job's; with all left, none.
 fn set_kind_places(
     jobs: &[u8],
     from: usize,
@@ -96,7 +114,11 @@ fn set_kind_places(
     max_shift: u32,
     earliest: &mut [u8],
     latest: &mut [u8],
-) {
+)
+    requires { ⌜ (from + count ≤ length (now jobs)) × (slot + count < length (now earliest)) × (slot + count < length (now latest)) ⌝ }
+    ensures { λ _. ⌜ now (earliest .exit) ≡ sets (now (earliest .entry)) slot (tabulate (earliestOf (now (jobs .entry)) from count first «max_shift») 0 (count + 1)) ⌝ }
+    ensures { λ _. ⌜ now (latest .exit) ≡ sets (now (latest .entry)) slot (tabulate (latestOf (now (jobs .entry)) from count last «max_shift») 0 (count + 1)) ⌝ }
+{
     let mut n: usize = 0;
     while n < count {
         let job = jobs[from + (count - 1 - n)];
@@ -104,6 +126,8 @@ fn set_kind_places(
         latest[slot + n] = latest_place(job, last, max_shift);
         n = n + 1;
     }
+    earliest[slot + count] = 1;
+    latest[slot + count] = 0;
 }
 
 // The slots of every kind.
@@ -115,10 +139,17 @@ fn set_places(
     slots: &mut [usize],
     earliest: &mut [u8],
     latest: &mut [u8],
-) {
+)
+    requires { ⌜ Valid queue × Listed (problem queue) (now counts) (now begins) (now jobs) ⌝ }
+    requires { ⌜ (length (now slots) ≡ 5) × (length (now earliest) ≡ 65) × (length (now latest) ≡ 65) ⌝ }
+    ensures { λ _. ⌜ now (slots .exit) ≡ sets (now (slots .entry)) 0 (map (slotOf (problem queue)) (upto (queue .kinds))) ⌝ }
+    ensures { λ _. ⌜ now (earliest .exit) ≡ sets (now (earliest .entry)) 0 (bySlot (problem queue) (earliestAt queue)) ⌝ }
+    ensures { λ _. ⌜ now (latest .exit) ≡ sets (now (latest .entry)) 0 (bySlot (problem queue) (latestAt queue)) ⌝ }
+{
     let kinds = queue.kinds as usize;
     let first = queue.first_places;
     let last = queue.last_places;
+    let max_shift = queue.max_shift;
     let mut kind: usize = 0;
     while kind < kinds {
         let from = begins[kind] as usize;
@@ -130,7 +161,7 @@ fn set_places(
             from + kind,
             first[kind],
             last[kind],
-            queue.max_shift,
+            max_shift,
             earliest,
             latest,
         );
@@ -139,7 +170,11 @@ fn set_places(
 }
 
 // What one job of each kind counts for in an entry number; returns 01's P.
-fn set_strides(counts: &[u32], kinds: usize, strides: &mut [usize]) -> usize {
+fn set_strides(counts: &[u32], kinds: usize, strides: &mut [usize]) -> usize
+    requires { ⌜ (kinds ≤ 5) × (length (now counts) ≡ 5) × (length (now strides) ≡ 5) × ((j : ℕ) → j < kinds → getD (now counts) j 0 ≤ 60) ⌝ }
+    ensures { λ r. ⌜ r ≡ size (take kinds (now (counts .entry))) ⌝ }
+    ensures { λ _. ⌜ now (strides .exit) ≡ sets (now (strides .entry)) 0 (map (stride (take kinds (now (counts .entry)))) (upto kinds)) ⌝ }
+{
     let mut product: usize = 1;
     let mut j: usize = 0;
     while j < kinds {
@@ -155,7 +190,6 @@ pub fn prepare(queue: Queue) -> Layout
     requires { ⌜ Valid queue ⌝ }
     ensures { λ r. ⌜ Prepared queue r ⌝ }
 {
-    let job_kinds = queue.job_kinds;
     let kinds = queue.kinds as usize;
     let mut counts = [0u32; 5];
     let mut jobs = [0u8; 60];
@@ -164,14 +198,7 @@ pub fn prepare(queue: Queue) -> Layout
     let mut latest = [0u8; 65];
     let mut slots = [0usize; 5];
     let mut strides = [0usize; 5];
-    list_jobs(
-        &job_kinds,
-        queue.jobs as usize,
-        kinds,
-        &mut counts,
-        &mut jobs,
-        &mut begins,
-    );
+    list_jobs(queue, &mut counts, &mut jobs, &mut begins);
     set_places(
         queue,
         &counts,
