@@ -5,3 +5,4 @@ pub mod Storing
 pub mod Listing
 pub mod ByKind
 pub mod Places
+pub mod Strides

@@ -15,7 +15,7 @@ use Rattle.queue.specs.Record.{Valid}
 use Rattle.sequencing.specs.Lists.{at, upto}
 use Rattle.sequencing.specs.States.{jobsOf, K, allLeft}
 use Rattle.sequencing.specs.Entries.{stride}
-use Rattle.sequencing.proofs.Counting.{bool-cases}
+use Rattle.number.proofs.Steps.{bool-cases}
 use Rattle.sequencing.proofs.Vectors.{at-sum}
 use Rattle.sequencing.proofs.AllJobs.{length-all, sum-all}
 use Rattle.problem.specs.OfQueue.{problem}
