@@ -1,16 +1,17 @@
 -- Lists laid one after the other: where each begins, and what stands there.
 -- Assumes nothing.
 use Prim.Native.Nat.{ℕ, zero, suc, _+_, _≤_, _<_}
-use mathlib.Core.Path.{_≡_, refl, ap, _∙_}
-use mathlib.Core.List.{List, [], _∷_, _++_, map, flatMap}
+use mathlib.Core.Path.{_≡_, refl, _∙_}
+use mathlib.Core.List.{List, [], _∷_, map, flatMap}
 use mathlib.Core.Logic.{inl, inr}
 use native.Mathlib.Omega.{arith}
 use native.Mathlib.Nat.{add-zero, add-assoc}
 use lib.ListN.{length, getD, set, replicate, length-append, length-set, length-replicate, List·getD-append, List·getD-eq-default}
 use lib.Seq.{sets, getD-set-same, getD-append-add}
 use Rattle.number.proofs.Steps.{below-or-not}
-use Rattle.fields.specs.Lists.{filled}
+use Rattle.fields.specs.Lists.{tabulate, filled}
 use Rattle.fields.proofs.Arrays.{getD-sets-before, filled-past}
+use Rattle.fields.proofs.Tables.{length-tabulate}
 use Rattle.sequencing.specs.Lists.{from, sum}
 
 -- ---- what an array holds
@@ -62,8 +63,8 @@ sum-front f i zero r h = absurd (omega arith)
 sum-front f i (suc n) zero h = let e : i + 0 ≡ i = omega arith in rw e (omega arith)
 sum-front f i (suc n) (suc r) h = let e : i + suc r ≡ suc i + r = omega arith in rw e (omega (arith, sum-front f (suc i) n r (omega arith)))
 
--- one more in each block
-pub sum-ones : (f : ℕ → ℕ) (i n : ℕ) → sum (map (λ j. f j + 1) (from i n)) ≡ sum (map f (from i n)) + n
+-- blocks of one more than c j each
+pub sum-slots : (f : ℕ → ℕ → ℕ) (c : ℕ → ℕ) (i n : ℕ) → sum (map (λ j. length (tabulate (f j) 0 (c j + 1))) (from i n)) ≡ sum (map c (from i n)) + n
 unfolding from sum
-sum-ones f i zero = refl
-sum-ones f i (suc n) = omega (arith, sum-ones f (suc i) n)
+sum-slots f c i zero = refl
+sum-slots f c i (suc n) = omega (arith, length-tabulate (f i) 0 (c i + 1), sum-slots f c (suc i) n)

@@ -12,10 +12,10 @@ use lib.ListN.{length, getD, set}
 use lib.Seq.{sets}
 use Rattle.number.proofs.Steps.{below-or-not}
 use Rattle.fields.specs.Lists.{tabulate}
-use Rattle.fields.proofs.Tables.{length-tabulate, tabulate-ext}
+use Rattle.fields.proofs.Tables.{tabulate-ext}
 use Rattle.queue.specs.declared.Queue.{Queue}
-use Rattle.queue.specs.Record.{firstPlace, lastPlace, kind, Valid}
-use Rattle.sequencing.specs.Lists.{at, upto, sum}
+use Rattle.queue.specs.Record.{kind, Valid}
+use Rattle.sequencing.specs.Lists.{at, upto}
 use Rattle.sequencing.specs.Problem.{Problem, T, kind as kindIn}
 use Rattle.sequencing.specs.States.{jobsOf, K, allLeft}
 use Rattle.sequencing.proofs.Counting.{getD-filter}
@@ -26,7 +26,7 @@ use Rattle.problem.specs.OfQueue.{problem}
 use Rattle.problem.proofs.Rule.{kind-is}
 use Rattle.layout.specs.Prepared.{byKind, beginOf, bySlot, slotOf, jobCut, earliestAt, latestAt}
 use Rattle.layout.specs.Steps.{Listed, cutOf, earliestOf, latestOf}
-use Rattle.layout.proofs.Blocks.{sum-ones}
+use Rattle.layout.proofs.Blocks.{sum-slots}
 use Rattle.layout.proofs.Positions.{length-filled, of-kinds, counts-in, begin-few, by-kind-at}
 use Rattle.layout.proofs.Storing.{Storing, storing-none, storing-more, storing-done, storing-kinds, ahead, Laying, laying-none, laying-more, laying-done}
 use Rattle.layout.proofs.Listing.{at-getD}
@@ -64,8 +64,7 @@ module _ {jobs : List ℕ} {from count slot first last shift : ℕ} {earliest₀
   unfolding earliestOf latestOf
   placing-done h =
       let z : 0 + n ≡ n = omega arith in
-      let t = le-ltb n count h in
-      (
+      let t = le-ltb n count h in (
         storing-done (storing-more (w .firsts) (omega arith) (slot + count) 1 (omega (arith, w .few)) (rw (z, t))) (omega arith),
         storing-done (storing-more (w .lasts) (omega arith) (slot + count) 0 (omega (arith, w .few)) (rw (z, t))) (omega arith),
       )
@@ -136,20 +135,19 @@ module _ {q : Queue} (v : Valid q) {counts begins jobs : List ℕ} (listed : Lis
   slots-are g xs d L h u =
       ap (λ m. tabulate (λ n. cond (ltb n m) (g (at xs L) (cutOf jobs (at begins L) (at counts L) n)) d) 0 (m + 1)) (count-is L h)
       ∙ tabulate-ext (λ n. cond (ltb n (K P L)) (g (at xs L) (cutOf jobs (at begins L) (at counts L) n)) d)
-          (λ n. cond (ltb n (K P L)) (g (getD xs (kind q (jobCut P L n) - 1) 0) (jobCut P L n)) d) 0 (K P L + 1)
-          (λ n l m. elim (below-or-not n (K P L)) [
-            | inl few ↦ rw (lt-ltb n (K P L) few, cut-is L n h u few, kind-cut L n h u few, at-getD xs L h)
-            | inr all ↦ rw (le-ltb n (K P L) all)
-          ])
+      (λ n. cond (ltb n (K P L)) (g (getD xs (kind q (jobCut P L n) - 1) 0) (jobCut P L n)) d) 0 (K P L + 1)
+      (λ n l m. elim (below-or-not n (K P L)) [
+        | inl few ↦ rw (lt-ltb n (K P L) few, cut-is L n h u few, kind-cut L n h u few, at-getD xs L h)
+        | inr all ↦ rw (le-ltb n (K P L) all)
+      ])
 
   -- and begin where the queue's do
   ahead-is : (f : ℕ → ℕ → ℕ) (k : ℕ) → k < q .kinds → at begins (suc k) + k ≡ ahead (slotsOf counts f) k
   unfolding beginOf
   ahead-is f k h =
       let e : suc k - 1 ≡ k = omega arith in
-      rw (begin-is (suc k) (omega arith) (omega arith), e) (sym (
-        sum-same (λ L. length (slotsOf counts f L)) (λ L. K P L + 1) 1 k (λ L l u. length-tabulate (f L) 0 (at counts L + 1) ∙ ap (λ n. n + 1) (count-is L l))
-        ∙ sum-ones (K P) 1 k))
+      rw (begin-is (suc k) (omega arith) (omega arith), e)
+      (sym (sum-slots f (at counts) 1 k ∙ ap (λ n. n + k) (sum-same (at counts) (K P) 1 k (λ L l u. count-is L l))))
 
   pub next-kind : (k : ℕ) → k < q .kinds → NextKind counts begins jobs k
   next-kind k h = record {

@@ -2,9 +2,9 @@
 -- Assumes nothing.
 use Prim.Native.Nat.{ℕ, zero, suc, _+_, _-_, _≤_, _<_}
 use mathlib.Core.Bool.{Bool, false}
-use mathlib.Core.List.{List, [], _∷_, map}
+use mathlib.Core.List.{List, [], map}
 use mathlib.Core.Logic.{inl, inr}
-use mathlib.Core.Path.{_≡_, refl, sym, ap, _∙_, fun-ext}
+use mathlib.Core.Path.{_≡_, refl, sym, ap, _∙_}
 use native.Mathlib.Omega.{arith}
 use borrow.Author.Tests.{ne-eqb}
 use lib.Dec.{eqb}
@@ -19,18 +19,19 @@ use Rattle.sequencing.specs.Lists.{at, from, upto, sum, filter}
 use Rattle.sequencing.specs.Problem.{Problem, T, kind}
 use Rattle.sequencing.specs.States.{jobsOf, K, allLeft}
 use Rattle.sequencing.proofs.Counting.{length-from}
+use Rattle.sequencing.proofs.Vectors.{at-sum}
 use Rattle.sequencing.proofs.AllJobs.{getD-map-from, at-all, length-all, sum-all}
 use Rattle.problem.specs.OfQueue.{problem}
 use Rattle.problem.proofs.Rule.{getD-tabulate, proper, few-jobs}
 use Rattle.layout.specs.Prepared.{byKind, beginOf, bySlot, slotOf}
-use Rattle.layout.proofs.Blocks.{getD-filled, flat-long, flat-at, sum-front, sum-ones}
+use Rattle.layout.proofs.Blocks.{getD-filled, flat-long, flat-at, sum-front, sum-slots}
 
 -- ---- arrays with a number for each kind
 
 pub length-filled : (m : ℕ) (vs : List ℕ) → length (filled m vs) ≡ m
 length-filled m vs = length-sets (replicate m 0) 0 vs ∙ length-replicate {A = ℕ} m 0
 
-pub take-filled : (m n : ℕ) (vs : List ℕ) → length vs ≡ n → n ≤ m → take n (filled m vs) ≡ vs
+take-filled : (m n : ℕ) (vs : List ℕ) → length vs ≡ n → n ≤ m → take n (filled m vs) ≡ vs
 take-filled m n vs e r = rw (← e) (part-sets (replicate m 0) 0 vs (omega (arith, length-replicate {A = ℕ} m 0)))
 
 -- one for each of the kinds 1 to n
@@ -57,7 +58,7 @@ module _ (q : Queue) (v : Valid q) where
   none-past j h =
       ap length (filter-none (λ i. eqb j (kind P i)) 1 (T P) (λ i l u. ne-eqb j (kind P i) (λ e. omega (arith, proper q v i l (omega arith)))))
 
-  pub counts-of : (j : ℕ) → at (filled 5 (allLeft P)) j ≡ at (allLeft P) j
+  counts-of : (j : ℕ) → at (filled 5 (allLeft P)) j ≡ at (allLeft P) j
   counts-of zero = refl
   counts-of (suc i) = getD-filled 5 (allLeft P) (omega (arith, length-all P, v .kinds)) i
 
@@ -68,6 +69,12 @@ module _ (q : Queue) (v : Valid q) where
     | inl l ↦ at-all P (suc i) h (omega arith)
     | inr l ↦ (let few : length (allLeft P) ≤ i = omega (arith, length-all P) in List·getD-eq-default (allLeft P) 0 few ∙ sym (none-past (suc i) (omega arith)))
   ]
+
+  pub counts-small : (j : ℕ) → at (filled 5 (allLeft P)) j ≤ 60
+  counts-small j = omega (arith, counts-of j, at-sum (allLeft P) j, sum-all P (proper q v), few-jobs q v)
+
+  pub counts-all : take (q .kinds) (filled 5 (allLeft P)) ≡ allLeft P
+  counts-all = take-filled 5 (q .kinds) (allLeft P) (length-all P) (v .kinds .1)
 
   -- the jobs before a kind and its own are no more than all
   pub begin-few : (L : ℕ) → 1 ≤ L → L ≤ q .kinds → beginOf P L + K P L ≤ 60
@@ -88,13 +95,9 @@ module _ (q : Queue) (v : Valid q) where
       getD-filled 60 (byKind P) all-by-kind (beginOf P L + n) ∙ flat-at (jobsOf P) 1 (q .kinds) (L - 1) n (omega arith) (rw e few) ∙ rw e
 
   module _ (f : ℕ → ℕ → ℕ) where
-    -- the slots of the first kinds
-    pub slots-of : (n : ℕ) → sum (map (λ L. length (tabulate (f L) 0 (K P L + 1))) (upto n)) ≡ sum (map (K P) (upto n)) + n
-    slots-of n = ap (λ g. sum (map g (upto n))) (fun-ext (λ L. length-tabulate (f L) 0 (K P L + 1))) ∙ sum-ones (K P) 1 n
-
     by-slot-long : length (bySlot P f) ≡ sum (allLeft P) + q .kinds
     unfolding bySlot allLeft
-    by-slot-long = flat-long (λ L. tabulate (f L) 0 (K P L + 1)) 1 (q .kinds) ∙ slots-of (q .kinds)
+    by-slot-long = flat-long (λ L. tabulate (f L) 0 (K P L + 1)) 1 (q .kinds) ∙ sum-slots f (K P) 1 (q .kinds)
 
     pub all-by-slot : length (bySlot P f) ≤ 65
     all-by-slot = omega (arith, by-slot-long, sum-all P (proper q v), few-jobs q v, v .kinds)
@@ -110,5 +113,5 @@ module _ (q : Queue) (v : Valid q) where
       unfolding beginOf bySlot
       by-slot-at =
           let e : 1 + (L - 1) ≡ L = omega arith in
-          rw (← slots-of (L - 1)) (flat-at (λ L. tabulate (f L) 0 (K P L + 1)) 1 (q .kinds) (L - 1) n (omega arith) (rw e (omega (arith, length-tabulate (f L) 0 (K P L + 1))))
+          rw (← sum-slots f (K P) 1 (L - 1)) (flat-at (λ L. tabulate (f L) 0 (K P L + 1)) 1 (q .kinds) (L - 1) n (omega arith) (rw e (omega (arith, length-tabulate (f L) 0 (K P L + 1))))
           ∙ rw e (getD-tabulate (f L) 0 (K P L + 1) n n (omega arith) (omega arith)))

@@ -16,14 +16,12 @@ use Rattle.sequencing.specs.Lists.{at, upto}
 use Rattle.sequencing.specs.States.{jobsOf, K, allLeft}
 use Rattle.sequencing.specs.Entries.{stride}
 use Rattle.number.proofs.Steps.{bool-cases}
-use Rattle.sequencing.proofs.Vectors.{at-sum}
-use Rattle.sequencing.proofs.AllJobs.{length-all, sum-all}
 use Rattle.problem.specs.OfQueue.{problem}
-use Rattle.problem.proofs.Rule.{allowed-between, proper, few-jobs}
+use Rattle.problem.proofs.Rule.{allowed-between}
 use Rattle.layout.specs.declared.Layout.{Layout}
 use Rattle.layout.specs.Prepared.{byKind, beginOf, bySlot, slotOf, jobCut, earliestAt, latestAt, Prepared}
 use Rattle.layout.proofs.Blocks.{getD-sets-in, getD-filled}
-use Rattle.layout.proofs.Positions.{length-filled, take-filled, of-kinds, counts-of, counts-in, begin-few, by-kind-at, all-by-slot, slot-within, by-slot-at}
+use Rattle.layout.proofs.Positions.{length-filled, of-kinds, counts-in, counts-small, counts-all, begin-few, by-kind-at, all-by-slot, slot-within, by-slot-at}
 
 none-between : (p : ℕ) → leb 1 p && leb p 0 ≡ false
 none-between zero = refl
@@ -68,11 +66,10 @@ module _ {q : Queue} (v : Valid q) {l : Layout} (p : Prepared q l) where
   counts-at j h = ap (λ cs. at cs j) (p .counts-are) ∙ counts-in q v j h
 
   pub counts-few : (j : ℕ) → at (l .counts) j ≤ 60
-  counts-few j = rw (p .counts-are) (omega (arith, counts-of q v j, at-sum (allLeft (problem q)) j, sum-all (problem q) (proper q v), few-jobs q v))
+  counts-few j = rw (p .counts-are) (counts-small q v j)
 
   pub counts-take : take (q .kinds) (l .counts) ≡ allLeft (problem q)
-  counts-take =
-      ap (take (q .kinds)) (p .counts-are) ∙ take-filled 5 (q .kinds) (allLeft (problem q)) (length-all (problem q)) (v .kinds .1)
+  counts-take = ap (take (q .kinds)) (p .counts-are) ∙ counts-all q v
 
   begins-at : (L : ℕ) → 1 ≤ L → L ≤ q .kinds → at (l .begins) L ≡ beginOf (problem q) L
   begins-at L h u = ap (λ bs. at bs L) (p .begins-are) ∙ of-kinds (beginOf (problem q)) 5 (q .kinds) (v .kinds .1) L h u

@@ -104,7 +104,7 @@ module _ {f : ℕ → List ℕ} {total : ℕ} {a₀ a : List ℕ} {k : ℕ} (w :
         means =
             w .means
             ∙ rw (d, flat-more f (suc k) (total - k) (omega arith), p, sum-more (λ j. length (f j)) 1 k, q, r, ← e)
-                (sets-append (f (suc k)) (flatMap f (from (suc (suc k)) (total - suc k))) a at);
+            (sets-append (f (suc k)) (flatMap f (from (suc (suc k)) (total - suc k))) a at);
       }
 
   pub laying-done : total ≤ k → (g : ℕ → List ℕ) → ((j : ℕ) → 1 ≤ j → j ≤ total → f j ≡ g j) → a ≡ sets a₀ 0 (flatMap g (upto total))

@@ -1,6 +1,6 @@
 -- The strides of all kinds, as one list.
 -- Assumes nothing.
-use Prim.Native.Nat.{ℕ, suc, _+_, _≤_, _<_}
+use Prim.Native.Nat.{ℕ, suc, _≤_, _<_}
 use mathlib.Core.List.{List, map}
 use mathlib.Core.Logic.{inl, inr}
 use mathlib.Core.Path.{_≡_, sym, ap, _∙_}
@@ -16,8 +16,8 @@ use Rattle.sequencing.proofs.AllJobs.{getD-map-from}
 use Rattle.jobs_left.proofs.Fronts.{Striding, striding-done, striding-rest}
 use Rattle.layout.proofs.Blocks.{getD-sets-in}
 
-module _ (counts : List ℕ) (kinds : ℕ) (strides₀ : List ℕ) (all-counts : kinds ≤ length counts) (all-strides : kinds ≤ length strides₀)
-    (few : (j : ℕ) → j < kinds → getD counts j 0 ≤ 60) (strides : List ℕ) (product j : ℕ) (w : Striding counts kinds strides₀ strides product j) where
+module _ {counts : List ℕ} {kinds : ℕ} {strides₀ strides : List ℕ} {product j : ℕ} (w : Striding counts kinds strides₀ strides product j)
+    (all-counts : kinds ≤ length counts) (all-strides : kinds ≤ length strides₀) (few : (j : ℕ) → j < kinds → getD counts j 0 ≤ 60) where
   pub strided : kinds ≤ j → strides ≡ sets strides₀ 0 (map (stride (take kinds counts)) (upto kinds))
   strided h =
       let vs : List ℕ = map (stride (take kinds counts)) (upto kinds) in

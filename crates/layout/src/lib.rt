@@ -103,7 +103,7 @@ fn latest_place(job: u8, last: u8, max_shift: u32) -> u8
     job + max_shift as u8
 }
 
-// The slots of one kind: with n left, the (count - n)th job's; with all left, none.
+// The slots of one kind: with n left, the (count - n)th job's; with all left none was cut, and no place is permitted.
 fn set_kind_places(
     jobs: &[u8],
     from: usize,

@@ -1,7 +1,6 @@
 -- `layout::set_kind_places` meets its contract: `Placing` is the invariant; the numbers left to set fall.
 -- Assumes nothing.
 use Prim.Native.Nat.{_-_}
-use native.Mathlib.Omega.{arith}
 use Rattle.layout.proofs.Places.{Placing, placing-none, placing-more, placing-done}
 use borrow.Author.Needs.{needs}
 use Rattle.layout.proofs.set_kind_places.Statement.{statement}

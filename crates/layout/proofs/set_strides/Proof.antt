@@ -34,7 +34,7 @@ returns c =
     let few = c .before .before .pre .3 in
     let w = c .before .loop .inv in
     let done = c .loop-test .left in
-    (front-done _ _ _ _ _ _ (w .front) done, strided _ _ _ (omega arith) (omega arith) few _ _ _ w done)
+    (front-done _ _ _ _ _ _ (w .front) done, strided w (omega arith) (omega arith) few done)
 
 pub set-strides-spec : {M : Type 1} → statement M
 set-strides-spec =
