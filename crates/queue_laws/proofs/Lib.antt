@@ -1,4 +1,3 @@
-pub mod Arrays
 pub mod GapRows
 pub mod Format
 pub mod Message

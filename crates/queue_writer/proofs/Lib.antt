@@ -1,3 +1,1 @@
-pub mod Loops
-pub mod Pieces
-pub mod Ways
+pub mod Arrays

@@ -1,12 +1,13 @@
 -- A record's lists as its arrays hold them.
-use Prim.Native.Nat.{ℕ, _+_, _-_, _*_}
+use Prim.Native.Nat.{ℕ, _+_, _-_}
 use mathlib.Core.List.{List}
 use lib.ListN.{getD}
+use Rattle.gaps.specs.Gaps.{gapAt}
 use Rattle.fields.specs.Lists.{tabulate}
 
--- gap rows 0 to N, row i from 5 × i on
+-- gap rows 0 to N, N numbers each
 abbrev pub gapRows : List ℕ → ℕ → List (List ℕ)
-gapRows gaps n = tabulate (λ i. tabulate (λ j. getD gaps (5 * i + (j - 1)) 0) 1 n) 0 (n + 1)
+gapRows gaps n = tabulate (λ i. tabulate (gapAt gaps i) 1 n) 0 (n + 1)
 
 -- a_1 b_1 .. a_N b_N
 abbrev pub windowPairs : List ℕ → List ℕ → ℕ → List (ℕ × ℕ)

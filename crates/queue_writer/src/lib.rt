@@ -1,4 +1,4 @@
-// The queue message: its writer.
+// The queue message's writer.
 use queue::Queue;
 use refusal::Reason;
 use refusal::Verdict;
@@ -13,28 +13,15 @@ ghost use Rattle.queue.specs.Record.{windowOk};
 ghost use Rattle.queue_writer.specs.Arrays.{gapRows, windowPairs};
 ghost use Rattle.queue.specs.Writing.{encodeWindow, settingsBytes, headBytes, jobBytes, message, judgeSettings, judgeTables, judgeHead, judgeJobs, judge, writeQueue, writtenQueue};
 
-// Whether a number is from `low` to `high`.
-fn is_within(value: u32, low: u32, high: u32) -> bool
-    ensures { λ r. ⌜ r ≡ within low high value ⌝ }
-{
-    if value < low {
-        return false;
-    }
-    value <= high
-}
-
-// Whether `count` of the values, from `from` on, are all from `low` to `high`.
-fn all_within(values: &[u32], from: usize, count: usize, low: u32, high: u32) -> bool
+// Whether `count` of the values, from `from` on, are all at most `most`.
+fn all_at_most(values: &[u32], from: usize, count: usize, most: u64) -> bool
     requires { ⌜ from + count ≤ length (now values) ⌝ }
-    ensures { λ r. ⌜ r ≡ all (within low high) (part from count (now (values .entry))) ⌝ }
+    ensures { λ r. ⌜ r ≡ all (within 0 most) (part from count (now (values .entry))) ⌝ }
 {
     let mut k: usize = 0;
     while k < count {
         let v = values[from + k];
-        if v < low {
-            return false;
-        }
-        if high < v {
+        if !fields::is_within(v as u64, 0, most) {
             return false;
         }
         k = k + 1;
@@ -49,7 +36,7 @@ fn judge_gaps(gaps: &[u32], kinds: usize) -> bool
 {
     let mut row: usize = 0;
     while row <= kinds {
-        if !all_within(gaps, 5 * row, kinds, 0, 65535) {
+        if !all_at_most(gaps, gaps::row_start(row), kinds, 65535) {
             return false;
         }
         row = row + 1;
@@ -57,27 +44,14 @@ fn judge_gaps(gaps: &[u32], kinds: usize) -> bool
     true
 }
 
-// Whether the allowed places of one kind are places, in order.
-fn judge_window(first: u32, last: u32) -> bool
-    ensures { λ r. ⌜ r ≡ windowOk (first, last) ⌝ }
-{
-    if first < 1 {
-        return false;
-    }
-    if last < first {
-        return false;
-    }
-    last <= 60
-}
-
-// Whether the allowed places of every kind are.
-fn judge_windows(first: &[u32], last: &[u32], kinds: usize) -> bool
+// Whether the allowed places of every kind are places, in order.
+fn judge_windows(first: &[u8], last: &[u8], kinds: usize) -> bool
     requires { ⌜ (kinds ≤ length (now first)) × (kinds ≤ length (now last)) ⌝ }
     ensures { λ r. ⌜ r ≡ all windowOk (windowPairs (now (first .entry)) (now (last .entry)) kinds) ⌝ }
 {
     let mut kind: usize = 0;
     while kind < kinds {
-        if !judge_window(first[kind], last[kind]) {
+        if !queue::is_window(wide(first[kind]), wide(last[kind])) {
             return false;
         }
         kind = kind + 1;
@@ -85,20 +59,41 @@ fn judge_windows(first: &[u32], last: &[u32], kinds: usize) -> bool
     true
 }
 
+// Whether `count` jobs are of kinds from 1 to `kinds`.
+fn judge_kinds(jobs: &[u8], count: usize, kinds: u64) -> bool
+    requires { ⌜ count ≤ length (now jobs) ⌝ }
+    ensures { λ r. ⌜ r ≡ all (within 1 kinds) (part 0 count (now (jobs .entry))) ⌝ }
+{
+    let mut k: usize = 0;
+    while k < count {
+        if !fields::is_within(wide(jobs[k]), 1, kinds) {
+            return false;
+        }
+        k = k + 1;
+    }
+    true
+}
+
+fn wide(x: u8) -> u64
+    ensures { λ r. ⌜ r ≡ x ⌝ }
+{
+    x as u64
+}
+
 // Refusals 5 to 8.
 fn judge_settings(queue: Queue) -> Verdict
     ensures { λ r. ⌜ r ≡ judgeSettings queue ⌝ }
 {
-    if !is_within(queue.kinds, 1, 5) {
+    if !fields::is_within(queue.kinds as u64, 1, 5) {
         return Verdict::Refused(Reason::Kinds);
     }
-    if !is_within(queue.goal, 1, 2) {
+    if !fields::is_within(queue.goal as u64, 1, 2) {
         return Verdict::Refused(Reason::Goal);
     }
-    if !is_within(queue.max_shift, 0, 60) {
+    if !fields::is_within(queue.max_shift as u64, 0, 60) {
         return Verdict::Refused(Reason::Shift);
     }
-    if !is_within(queue.start, 0, queue.kinds) {
+    if !fields::is_within(queue.start as u64, 0, queue.kinds as u64) {
         return Verdict::Refused(Reason::Start);
     }
     Verdict::Accepted
@@ -115,7 +110,7 @@ fn judge_tables(queue: Queue) -> Verdict
         return Verdict::Refused(Reason::Gap);
     }
     let weights = queue.weights;
-    if !all_within(&weights, 0, kinds, 0, 1000) {
+    if !all_at_most(&weights, 0, kinds, 1000) {
         return Verdict::Refused(Reason::Pupils);
     }
     let first = queue.first_places;
@@ -140,12 +135,12 @@ fn judge_head(queue: Queue) -> Verdict
 fn judge_jobs(queue: Queue) -> Verdict
     ensures { λ r. ⌜ r ≡ judgeJobs queue ⌝ }
 {
-    if !is_within(queue.jobs, 0, 60) {
+    if !fields::is_within(queue.jobs as u64, 0, 60) {
         return Verdict::Refused(Reason::Jobs);
     }
     let jobs = queue.jobs as usize;
     let job_kinds = queue.job_kinds;
-    if !all_within(&job_kinds, 0, jobs, 1, queue.kinds) {
+    if !judge_kinds(&job_kinds, jobs, queue.kinds as u64) {
         return Verdict::Refused(Reason::Kind);
     }
     Verdict::Accepted
@@ -184,14 +179,14 @@ fn write_gaps(buffer: &mut [u8], at: usize, gaps: &[u32], kinds: usize) -> usize
     let mut i = at;
     let mut row: usize = 0;
     while row <= kinds {
-        i = fields_writer::write_run(buffer, i, gaps, 5 * row, kinds);
+        i = fields_writer::write_run(buffer, i, gaps, gaps::row_start(row), kinds);
         row = row + 1;
     }
     i
 }
 
 // The allowed places of one kind.
-fn write_window(buffer: &mut [u8], at: usize, first: u32, last: u32) -> usize
+fn write_window(buffer: &mut [u8], at: usize, first: u8, last: u8) -> usize
     requires { ⌜ at + length (encodeWindow (first, last)) ≤ length (now buffer) ⌝ }
     ensures { λ r. ⌜ r ≡ at + length (encodeWindow (first, last)) ⌝ }
     ensures { λ _. ⌜ now (buffer .exit) ≡ sets (now (buffer .entry)) at (encodeWindow (first, last)) ⌝ }
@@ -201,7 +196,7 @@ fn write_window(buffer: &mut [u8], at: usize, first: u32, last: u32) -> usize
 }
 
 // The allowed places of every kind.
-fn write_windows(buffer: &mut [u8], at: usize, first: &[u32], last: &[u32], kinds: usize) -> usize
+fn write_windows(buffer: &mut [u8], at: usize, first: &[u8], last: &[u8], kinds: usize) -> usize
     requires { ⌜ (kinds ≤ length (now first)) × (kinds ≤ length (now last)) × (at + length (flatMap encodeWindow (windowPairs (now first) (now last) kinds)) ≤ length (now buffer)) ⌝ }
     ensures { λ r. ⌜ r ≡ at + length (flatMap encodeWindow (windowPairs (now (first .entry)) (now (last .entry)) kinds)) ⌝ }
     ensures { λ _. ⌜ now (buffer .exit) ≡ sets (now (buffer .entry)) at (flatMap encodeWindow (windowPairs (now (first .entry)) (now (last .entry)) kinds)) ⌝ }
@@ -241,7 +236,7 @@ fn write_jobs(buffer: &mut [u8], at: usize, queue: Queue) -> usize
     let jobs = queue.jobs as usize;
     let job_kinds = queue.job_kinds;
     let a = number::write_number(buffer, at, jobs as u64);
-    fields_writer::write_run(buffer, a, &job_kinds, 0, jobs)
+    fields_writer::write_byte_run(buffer, a, &job_kinds, 0, jobs)
 }
 
 // The message of a record that was judged.

@@ -1,37 +1,65 @@
 -- `queue_writer::judge_gaps` meets its contract: `Testing` is the invariant; the rows left fall.
 -- Assumes nothing.
 use Prim.Native.Nat.{_+_, _-_}
+use mathlib.Core.Path.{_≡_, sym, ap, _∙_}
+use mathlib.Core.List.{[]}
 use native.Mathlib.Omega.{arith}
-use mathlib.Core.Path.{sym, ap, _∙_}
-use Rattle.fields.specs.Fields.{all, within}
+use lib.ListN.{getD}
 use borrow.Author.Tests.{not-true, not-false}
-use Rattle.queue_writer.proofs.Loops.{Testing, test-none, test-more, test-out, test-done}
-use Rattle.queue_laws.proofs.Arrays.{gapRow, row-part}
+use Rattle.fields.specs.Fields.{all, within, part}
+use Rattle.fields.proofs.Orders.{kept, all-in-order}
+use Rattle.fields.proofs.Tables.{length-tabulate}
+use Rattle.fields.proofs.Testing.{Testing, test-none, test-more, test-out, test-done}
+use Rattle.queue_writer.specs.Arrays.{gapRows}
+use Rattle.queue_writer.proofs.Arrays.{row-at}
 use borrow.Author.Needs.{needs}
 use Rattle.queue_writer.proofs.judge_gaps.Statement.{statement}
 use Rattle.queue_writer.proofs.judge_gaps.Tie as tie
 
 abbrev Inv-loop : tie.InvT-loop
-Inv-loop gaps kinds row₀ row = Testing (all (within 0 65535)) (gapRow gaps kinds) 0 (kinds + 1) row
+Inv-loop gaps kinds row₀ row = let rows = gapRows gaps kinds in Testing (λ _. all (within 0 65535)) kept rows (kinds + 1) (all (all (within 0 65535)) rows) tt row
 
 abbrev μ-loop : tie.MeasureT-loop
 μ-loop gaps kinds row₀ row = kinds + 1 - row
 
+-- the function's entry and the turn's start, from where a row was judged
+abbrev at-entry : tie.After-all-at-most Inv-loop μ-loop → tie.Start Inv-loop μ-loop
+at-entry c = c .before .before .before .before .before
+
+abbrev at-turn : tie.After-all-at-most Inv-loop μ-loop → tie.In-loop Inv-loop μ-loop
+at-turn c = c .before .before
+
+here : (c : tie.After-all-at-most Inv-loop μ-loop)
+    → let args = at-entry c .args in getD (gapRows (args .gaps .now) (args .kinds)) (at-turn c .before .loop .row) [] ≡ part (c .before .row-start .result) (args .kinds) (args .gaps .now)
+here c =
+    let args = at-entry c .args in
+    let row = at-turn c .before .loop .row in
+    row-at (args .gaps .now) (args .kinds) row (omega arith) (omega arith) ∙ ap (λ i. part i (args .kinds) (args .gaps .now)) (sym (c .before .row-start .ensures))
+
 loop-holds : tie.Need-loop-holds Inv-loop μ-loop
-loop-holds c = test-none _ _ _ _
+loop-holds c = test-none (length-tabulate _ 0 _) (all-in-order _ _)
+
+row-start-requires : tie.Need-row-start-requires Inv-loop μ-loop
+row-start-requires c κs = omega arith
+
+all-at-most-requires : tie.Need-all-at-most-requires Inv-loop μ-loop
+all-at-most-requires c κs = omega (arith, c .row-start .ensures)
 
 returns : tie.Need-returns Inv-loop μ-loop
 returns c =
-    test-out _ _ _ _ _ (c .before .before .before .loop .inv) (omega arith)
-    (ap (all (within 0 65535)) (row-part (c .before .before .before .before .before .args .gaps .now) (c .before .before .before .before .before .args .kinds) (c .before .before .before .loop .row) (omega arith)) ∙ sym (c .before .all-within .ensures) ∙ not-true _ (c .if1 .taken))
+    let call = c .before in
+    test-out (at-turn call .before .loop .inv) [] _ (omega arith) (here call) (sym (call .all-at-most .ensures) ∙ not-true _ (c .if1 .taken))
+
+loop-less : tie.Need-loop-less Inv-loop μ-loop
+loop-less c = omega arith
 
 loop-again : tie.Need-loop-again Inv-loop μ-loop
 loop-again c =
-    test-more _ _ _ _ _ (c .before .before .before .loop .inv) (omega arith)
-    (ap (all (within 0 65535)) (row-part (c .before .before .before .before .before .args .gaps .now) (c .before .before .before .before .before .args .kinds) (c .before .before .before .loop .row) (omega arith)) ∙ sym (c .before .all-within .ensures) ∙ not-false _ (c .if1 .left))
+    let call = c .before in
+    test-more (at-turn call .before .loop .inv) [] _ (omega arith) (here call) (sym (call .all-at-most .ensures) ∙ not-false _ (c .if1 .left))
 
 returns-2 : tie.Need-returns-2 Inv-loop μ-loop
-returns-2 c = test-done _ _ _ _ _ (c .before .loop .inv) (omega arith)
+returns-2 c = test-done (c .before .loop .inv) (omega arith)
 
 pub judge-gaps-spec : {M : Type 1} → statement M
 judge-gaps-spec =
@@ -40,10 +68,10 @@ judge-gaps-spec =
     Inv-loop
     μ-loop
     loop-holds
-    (λ c. search needs)
-    (λ c κs. search needs)
+    row-start-requires
+    all-at-most-requires
     returns
     (λ c. search needs)
-    (λ c. search needs)
+    loop-less
     loop-again
     returns-2)

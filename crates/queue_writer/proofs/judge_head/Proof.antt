@@ -2,7 +2,7 @@
 -- Assumes nothing.
 use mathlib.Core.Path.{sym, _∙_}
 use Rattle.queue.specs.Writing.{judgeHead}
-use Rattle.queue_laws.proofs.Queues.{few-kinds}
+use Rattle.queue_laws.proofs.Message.{few-kinds}
 use borrow.Author.Needs.{needs}
 use Rattle.queue_writer.proofs.judge_head.Statement.{statement}
 use Rattle.queue_writer.proofs.judge_head.Tie as tie

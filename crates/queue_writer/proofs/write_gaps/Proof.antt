@@ -1,42 +1,62 @@
 -- `queue_writer::write_gaps` meets its contract: `Writing` is the invariant; the rows left fall.
 -- Assumes nothing.
 use Prim.Native.Nat.{_+_, _-_}
+use mathlib.Core.Path.{_≡_, sym, ap, _∙_}
+use mathlib.Core.List.{[]}
 use native.Mathlib.Omega.{arith}
-use Rattle.fields.specs.Fields.{encodeAll}
-use Rattle.queue_writer.proofs.Loops.{Writing, writing-none, writing-more, writing-room, writing-done}
-use Rattle.queue_laws.proofs.Arrays.{gapRow, row-part}
+use lib.ListN.{getD}
+use Rattle.fields.specs.Fields.{part, encodeAll}
+use Rattle.fields.proofs.Tables.{length-tabulate}
+use Rattle.fields.proofs.Writing.{Writing, writing-none, writing-more, writing-room, writing-done}
+use Rattle.queue_writer.specs.Arrays.{gapRows}
+use Rattle.queue_writer.proofs.Arrays.{row-at}
 use borrow.Author.Needs.{needs}
 use Rattle.queue_writer.proofs.write_gaps.Statement.{statement}
 use Rattle.queue_writer.proofs.write_gaps.Tie as tie
 
 abbrev Inv-loop : tie.InvT-loop
-Inv-loop buffer₀ at gaps kinds i₀ row₀ buffer i row = Writing encodeAll (gapRow gaps kinds) 0 (kinds + 1) buffer₀ at buffer i row
+Inv-loop buffer₀ at gaps kinds i₀ row₀ buffer i row = Writing encodeAll (gapRows gaps kinds) (kinds + 1) buffer₀ at buffer i row
 
 abbrev μ-loop : tie.MeasureT-loop
 μ-loop buffer₀ at gaps kinds i₀ row₀ buffer i row = kinds + 1 - row
 
+-- the turn's start and the function's entry, from where a row's place is known
+abbrev at-turn : tie.After-row-start Inv-loop μ-loop → tie.In-loop Inv-loop μ-loop
+at-turn c = c .before .before
+
+abbrev at-entry : tie.After-row-start Inv-loop μ-loop → tie.Start Inv-loop μ-loop
+at-entry c = at-turn c .before .before .before .before
+
+here : (c : tie.After-row-start Inv-loop μ-loop)
+    → let args = at-entry c .args in getD (gapRows (args .gaps .now) (args .kinds)) (at-turn c .before .loop .row) [] ≡ part (c .row-start .result) (args .kinds) (args .gaps .now)
+here c =
+    let args = at-entry c .args in
+    let row = at-turn c .before .loop .row in
+    row-at (args .gaps .now) (args .kinds) row (omega arith) (omega arith) ∙ ap (λ i. part i (args .kinds) (args .gaps .now)) (sym (c .row-start .ensures))
+
 loop-holds : tie.Need-loop-holds Inv-loop μ-loop
-loop-holds c = writing-none _ _ _ _ _ _
+loop-holds c = writing-none (length-tabulate _ 0 _)
+
+row-start-requires : tie.Need-row-start-requires Inv-loop μ-loop
+row-start-requires c κs = omega arith
 
 write-run-requires : tie.Need-write-run-requires Inv-loop μ-loop
-write-run-requires c κs =
-    let start = c .before .before .before .before .before in
-    (omega arith, writing-room _ _ _ _ _ _ _ _ _ (c .before .before .loop .inv) _ (row-part (start .args .gaps .now) (start .args .kinds) (c .before .before .loop .row) (omega arith)) (omega arith) (start .pre .2))
+write-run-requires c κs = (omega (arith, c .row-start .ensures), writing-room (at-turn c .before .loop .inv) [] _ (omega arith) (here c) (at-entry c .pre .2))
 
 loop-less : tie.Need-loop-less Inv-loop μ-loop
 loop-less c = omega arith
 
 loop-again : tie.Need-loop-again Inv-loop μ-loop
 loop-again c =
-    let start = c .before .before .before .before .before .before .before .before in
-    let call = c .before .before .write-run in
-    rw (call .ensures .0, call .ensures .1) (writing-more _ _ _ _ _ _ _ _ _ (c .before .before .before .before .before .loop .inv) _ (row-part (start .args .gaps .now) (start .args .kinds) (c .before .before .before .before .before .loop .row) (omega arith)) (omega arith))
+    let call = c .before .before in
+    let row = call .before in
+    rw (call .write-run .ensures .0, call .write-run .ensures .1) (writing-more (at-turn row .before .loop .inv) [] _ (omega arith) (here row))
 
 same-length : tie.Need-same-length Inv-loop μ-loop
 same-length c = c .before .loop .inv .long
 
 returns : tie.Need-returns Inv-loop μ-loop
-returns c = writing-done _ _ _ _ _ _ _ _ _ (c .before .loop .inv) (omega arith)
+returns c = writing-done (c .before .loop .inv) (omega arith)
 
 pub write-gaps-spec : {M : Type 1} → statement M
 write-gaps-spec =
@@ -45,7 +65,7 @@ write-gaps-spec =
     Inv-loop
     μ-loop
     loop-holds
-    (λ c. search needs)
+    row-start-requires
     write-run-requires
     (λ c. search needs)
     loop-less

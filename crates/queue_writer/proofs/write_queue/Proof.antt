@@ -1,28 +1,45 @@
 -- `queue_writer::write_queue` meets its contract: each of its three ways ends as the definitions say.
 -- Assumes nothing.
-use mathlib.Core.Path.{sym, _∙_}
+use mathlib.Core.Path.{_≡_, sym, _∙_}
 use native.Mathlib.Omega.{arith}
-use Rattle.queue_laws.proofs.Theorems.{judged-valid}
-use Rattle.queue_laws.proofs.Theorems.{message-length}
-use Rattle.queue_writer.proofs.Ways.{record-refused, buffer-short, message-written}
+use Rattle.refusal.specs.declared.Verdict.the-variants.{Accepted}
+use Rattle.fields.proofs.Answering.{record-refused, buffer-short, message-written}
+use Rattle.queue.specs.Writing.{judge, message, writeQueue, writtenQueue}
+use Rattle.queue_laws.proofs.Theorems.{judged-exactly, message-length}
 use borrow.Author.Needs.{needs}
 use Rattle.queue_writer.proofs.write_queue.Statement.{statement}
 use Rattle.queue_writer.proofs.write_queue.Tie as tie
 
+-- the record was accepted
+abbrev at-entry : tie.After-enum-told → tie.Start
+at-entry c = c .before .before .before .before
+
+accepted : (c : tie.After-enum-told) → judge (at-entry c .args .queue) ≡ Accepted
+accepted c = sym (c .before .before .judge-queue .ensures) ∙ c .enum-told .given .1
+
 returns : tie.Need-returns
-returns c = buffer-short _ _ (sym (c .before .before .before .judge-queue .ensures) ∙ c .before .enum-told .given .1) (c .if1 .taken)
+unfolding writeQueue writtenQueue
+returns c = buffer-short 178 _ (message (at-entry (c .before) .args .queue)) _ (accepted (c .before)) (c .if1 .taken)
 
 write-message-requires : tie.Need-write-message-requires
 write-message-requires c κs =
-    let q = c .before .before .before .before .before .before .args .queue in
-    let v = judged-valid q (sym (c .before .before .before .before .judge-queue .ensures) ∙ c .before .before .enum-told .given .1) in
+    let told = c .before .before in
+    let q = at-entry told .args .queue in
+    let v = judged-exactly q .0 (accepted told) in
     (v .kinds .1, v .jobs, omega (arith, message-length q v, c .before .if1 .left))
 
 returns-2 : tie.Need-returns-2
-returns-2 c = record-refused _ _ _ (sym (c .before .before .before .judge-queue .ensures) ∙ c .before .why .given .1)
+unfolding writeQueue writtenQueue
+returns-2 c =
+    let why = c .before in
+    record-refused 178 _ (message (why .before .before .before .before .args .queue)) _ _ (sym (why .before .before .judge-queue .ensures) ∙ why .why .given .1)
 
 returns-3 : tie.Need-returns-3
-returns-3 c = message-written _ _ (sym (c .before .before .before .before .before .before .before .judge-queue .ensures) ∙ c .before .before .before .before .before .enum-told .given .1) (c .before .before .before .before .if1 .left) _ _ (c .before .before .write-message .ensures)
+unfolding writeQueue writtenQueue
+returns-3 c =
+    let call = c .before .before in
+    let room = call .before .before in
+    message-written 178 _ (message (at-entry (room .before) .args .queue)) _ (accepted (room .before)) (room .if1 .left) _ _ (call .write-message .ensures)
 
 pub write-queue-spec : {M : Type 1} → statement M
 write-queue-spec =

@@ -4,68 +4,82 @@ use Prim.Native.Nat.{ℕ, _+_, _≤_}
 use mathlib.Core.List.{List, _++_}
 use lib.ListN.{length}
 use Rattle.number.specs.Numbers.{encode}
+use Rattle.fields.proofs.Pieces.{Wrote, room-first, room-left, wrote-both}
 use Rattle.queue.specs.declared.Queue.{Queue}
-use Rattle.queue_writer.proofs.Pieces.{Wrote, room-first, room-left, wrote-both}
 use borrow.Author.Needs.{needs}
 use Rattle.queue_writer.proofs.write_settings.Statement.{statement}
 use Rattle.queue_writer.proofs.write_settings.Tie as tie
 
-abbrev one : Queue → List ℕ
-one q = encode (q .kinds)
+-- the settings up to each number
+abbrev toKinds : Queue → List ℕ
+toKinds q = encode (q .kinds)
 
-abbrev two : Queue → List ℕ
-two q = one q ++ encode (q .goal)
+abbrev toGoal : Queue → List ℕ
+toGoal q = toKinds q ++ encode (q .goal)
 
-abbrev three : Queue → List ℕ
-three q = two q ++ encode (q .«max_shift»)
+abbrev toShift : Queue → List ℕ
+toShift q = toGoal q ++ encode (q .«max_shift»)
 
-room-three : (c : tie.Start) → c .args .at + length (three (c .args .queue)) ≤ length (c .args .buffer .now)
-room-three c = let q = c .args .queue in room-first (c .args .at) (three q) (encode (q .start)) _ (c .pre)
+-- the buffer holds them
+abbrev Room : (Queue → List ℕ) → tie.Start → Type 0
+Room bytes c = c .args .at + length (bytes (c .args .queue)) ≤ length (c .args .buffer .now)
 
-room-two : (c : tie.Start) → c .args .at + length (two (c .args .queue)) ≤ length (c .args .buffer .now)
-room-two c = let q = c .args .queue in room-first (c .args .at) (two q) (encode (q .«max_shift»)) _ (room-three (c))
+room-shift : (c : tie.Start) → Room toShift c
+room-shift c = let q = c .args .queue in room-first (c .args .at) (toShift q) (encode (q .start)) _ (c .pre)
 
-wrote-two : (c : tie.After-write-number2) → let s = c .before .before .before .before .before .before .before .before .before in Wrote (s .args .buffer .now) (s .args .at) (two (s .args .queue)) (c .write-number2 .last .0) (c .write-number2 .result)
-wrote-two c =
-    let s = c .before .before .before .before .before .before .before .before .before in
-    let q = s .args .queue in
-    wrote-both _ (s .args .at) (one q) _ _ (c .before .before .before .before .before .write-number .ensures) (encode (q .goal)) _ _ (c .write-number2 .ensures)
+room-goal : (c : tie.Start) → Room toGoal c
+room-goal c = let q = c .args .queue in room-first (c .args .at) (toGoal q) (encode (q .«max_shift»)) _ (room-shift c)
 
-wrote-three : (c : tie.After-write-number3) → let s = c .before .before .before .before .before .before .before .before .before .before .before .before .before .before in Wrote (s .args .buffer .now) (s .args .at) (three (s .args .queue)) (c .write-number3 .last .0) (c .write-number3 .result)
-wrote-three c =
-    let s = c .before .before .before .before .before .before .before .before .before .before .before .before .before .before in
-    let q = s .args .queue in
-    wrote-both _ (s .args .at) (two q) _ _ (wrote-two (c .before .before .before .before .before)) (encode (q .«max_shift»)) _ _ (c .write-number3 .ensures)
+-- after each call: the function's entry, and what was written since
+abbrev at-kinds : tie.After-write-number → tie.Start
+at-kinds c = c .before .before .before .before
+
+abbrev at-goal : tie.After-write-number2 → tie.Start
+at-goal c = at-kinds (c .before .before .before .before .before)
+
+goal : (c : tie.After-write-number2) → let args = at-goal c .args in Wrote (args .buffer .now) (args .at) (toGoal (args .queue)) (c .write-number2 .last .0) (c .write-number2 .result)
+goal c =
+    let args = at-goal c .args in
+    wrote-both _ (args .at) (toKinds (args .queue)) _ _ (c .before .before .before .before .before .write-number .ensures) (encode (args .queue .goal)) _ _ (c .write-number2 .ensures)
+
+abbrev at-shift : tie.After-write-number3 → tie.Start
+at-shift c = at-goal (c .before .before .before .before .before)
+
+shift : (c : tie.After-write-number3) → let args = at-shift c .args in Wrote (args .buffer .now) (args .at) (toShift (args .queue)) (c .write-number3 .last .0) (c .write-number3 .result)
+shift c =
+    let args = at-shift c .args in
+    wrote-both _ (args .at) (toGoal (args .queue)) _ _ (goal (c .before .before .before .before .before)) (encode (args .queue .«max_shift»)) _ _ (c .write-number3 .ensures)
 
 write-number-requires : tie.Need-write-number-requires
 write-number-requires c κs =
-    let s = c .before .before .before in
-    let q = s .args .queue in
-    room-first (s .args .at) (one q) (encode (q .goal)) _ (room-two (s))
+    let entry = c .before .before .before in
+    let q = entry .args .queue in
+    room-first (entry .args .at) (toKinds q) (encode (q .goal)) _ (room-goal entry)
 
 write-number-requires-2 : tie.Need-write-number-requires-2
 write-number-requires-2 c κs =
-    let s = c .before .before .before .before .before .before .before .before in
-    let q = s .args .queue in
-    room-left _ (s .args .at) (one q) _ _ (c .before .before .before .before .write-number .ensures) (encode (q .goal)) (room-two (s))
+    let w = c .before .before .before .before in
+    let args = at-kinds w .args in
+    room-left _ (args .at) (toKinds (args .queue)) _ _ (w .write-number .ensures) (encode (args .queue .goal)) (room-goal (at-kinds w))
 
 write-number-requires-3 : tie.Need-write-number-requires-3
 write-number-requires-3 c κs =
-    let s = c .before .before .before .before .before .before .before .before .before .before .before .before .before in
-    let q = s .args .queue in
-    room-left _ (s .args .at) (two q) _ _ (wrote-two (c .before .before .before .before)) (encode (q .«max_shift»)) (room-three (s))
+    let w = c .before .before .before .before in
+    let args = at-goal w .args in
+    room-left _ (args .at) (toGoal (args .queue)) _ _ (goal w) (encode (args .queue .«max_shift»)) (room-shift (at-goal w))
 
 write-number-requires-4 : tie.Need-write-number-requires-4
 write-number-requires-4 c κs =
-    let s = c .before .before .before .before .before .before .before .before .before .before .before .before .before .before .before .before .before .before in
-    let q = s .args .queue in
-    room-left _ (s .args .at) (three q) _ _ (wrote-three (c .before .before .before .before)) (encode (q .start)) (s .pre)
+    let w = c .before .before .before .before in
+    let args = at-shift w .args in
+    room-left _ (args .at) (toShift (args .queue)) _ _ (shift w) (encode (args .queue .start)) (at-shift w .pre)
 
 returns : tie.Need-returns
 returns c =
-    let s = c .before .before .before .before .before .before .before .before .before .before .before .before .before .before .before .before .before .before .before .before .before in
-    let q = s .args .queue in
-    wrote-both _ (s .args .at) (three q) _ _ (wrote-three (c .before .before .before .before .before .before .before)) (encode (q .start)) _ _ (c .before .before .write-number4 .ensures)
+    let last = c .before .before in
+    let w = last .before .before .before .before .before in
+    let args = at-shift w .args in
+    wrote-both _ (args .at) (toShift (args .queue)) _ _ (shift w) (encode (args .queue .start)) _ _ (last .write-number4 .ensures)
 
 pub write-settings-spec : {M : Type 1} → statement M
 write-settings-spec =
