@@ -38,16 +38,10 @@ pub fn stands_in(values: &[u8], count: usize, value: u32) -> bool
         if values.len() <= k {
             return false;
         }
-        if wide(values[k]) == value {
+        if values[k] as u32 == value {
             return true;
         }
         k = k + 1;
     }
     false
-}
-
-fn wide(x: u8) -> u32
-    ensures { λ r. ⌜ r ≡ x ⌝ }
-{
-    x as u32
 }

@@ -6,4 +6,5 @@ pub mod Numbers
 pub mod Pairs
 pub mod Runs
 pub mod Repeated
+pub mod Whole
 pub mod Messages

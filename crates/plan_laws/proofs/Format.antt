@@ -27,7 +27,8 @@ use Rattle.formats.proofs.Telling.{retold, rejudged}
 use Rattle.formats.proofs.Numbers.{anyNumber, tested, oneByte}
 use Rattle.formats.proofs.Pairs.{andNext, and-assoc}
 use Rattle.formats.proofs.Runs.{each-all, all-any, inTurns, run-flat}
-use Rattle.formats.proofs.Messages.{Message, Tied, whole, laws}
+use Rattle.formats.proofs.Whole.{whole}
+use Rattle.formats.proofs.Messages.{Message, Tied, laws}
 use Rattle.plan_laws.proofs.JobLists.{held, job-list-length}
 use Rattle.plan_laws.proofs.Judging.{valid-bounded, bounded-valid}
 

@@ -16,7 +16,7 @@ fn is_fresh(order: &[u8], places: usize, jobs: u32) -> bool
     requires { ⌜ places < length (now order) ⌝ }
     ensures { λ r. ⌜ r ≡ fresh jobs (take places (now (order .entry))) (getD (now (order .entry)) places 0) ⌝ }
 {
-    let job = wide(order[places]);
+    let job = order[places] as u32;
     if !fields::is_within(job as u64, 1, jobs as u64) {
         return false;
     }
@@ -100,10 +100,4 @@ pub fn write_plan(buffer: &mut [u8], plan: Plan) -> Written
             Written::Bytes(write_message(buffer, plan))
         }
     }
-}
-
-fn wide(x: u8) -> u32
-    ensures { λ r. ⌜ r ≡ x ⌝ }
-{
-    x as u32
 }

@@ -22,7 +22,8 @@ use Rattle.formats.proofs.Verdicts.{before-assoc}
 use Rattle.formats.proofs.Pairs.{and-assoc}
 use Rattle.fields.proofs.Orders.{kept}
 use Rattle.formats.proofs.Runs.{InTurn, each-all, all-any}
-use Rattle.formats.proofs.Messages.{Message, Tied, whole, laws}
+use Rattle.formats.proofs.Whole.{whole}
+use Rattle.formats.proofs.Messages.{Message, Tied, laws}
 use Rattle.queue_laws.proofs.GapRows.{rows-back}
 use Rattle.queue_laws.proofs.Format.{WindowOk, settingsFormat, Parts, settingsOf, rowsOf, weightsOf, windowsOf, jobsOf, kindsOf, queueFormat}
 

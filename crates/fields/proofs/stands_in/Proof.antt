@@ -1,7 +1,7 @@
 -- `fields::stands_in` meets its contract: `Seeking` is the invariant; the values left to look at fall.
 -- Assumes nothing.
 use Prim.Native.Nat.{_-_, _<_}
-use mathlib.Core.Path.{_≡_, sym, _∙_}
+use mathlib.Core.Path.{_≡_}
 use native.Mathlib.Omega.{arith}
 use lib.ListN.{length, getD, take, length-take}
 use lib.Seq.{getD-take}
@@ -20,35 +20,39 @@ loop-holds : tie.Need-loop-holds Inv-loop μ-loop
 loop-holds c = seek-none
 
 -- the value compared is the next one
-abbrev entry : tie.After-wide Inv-loop μ-loop → tie.Start Inv-loop μ-loop
-entry c = c .before .before .before .before .before .before
+abbrev turn : tie.After-shared-slice-known Inv-loop μ-loop → tie.In-loop Inv-loop μ-loop
+turn c = c .before .before
 
-abbrev here : tie.After-wide Inv-loop μ-loop → tie.At-loop Inv-loop μ-loop
-here c = c .before .before .before .before
+abbrev entry : tie.After-shared-slice-known Inv-loop μ-loop → tie.Start Inv-loop μ-loop
+entry c = turn c .before .before
 
-within : (c : tie.After-wide Inv-loop μ-loop) → here c .loop .k < length (take (entry c .args .count) (entry c .args .values .now))
+within : (c : tie.After-shared-slice-known Inv-loop μ-loop) → turn c .before .loop .k < length (take (entry c .args .count) (entry c .args .values .now))
 within c = omega (arith, length-take (entry c .args .count) (entry c .args .values .now))
 
-next : (c : tie.After-wide Inv-loop μ-loop) → getD (take (entry c .args .count) (entry c .args .values .now)) (here c .loop .k) 0 ≡ c .wide .result
-next c = getD-take _ _ _ _ (c .before .before .before .loop-test .taken) ∙ sym (c .wide .ensures)
+next : (c : tie.After-shared-slice-known Inv-loop μ-loop)
+    → getD (take (entry c .args .count) (entry c .args .values .now)) (turn c .before .loop .k) 0 ≡ getD (entry c .args .values .now) (turn c .before .loop .k) 0
+next c = getD-take _ _ _ 0 (turn c .loop-test .taken)
 
 returns : tie.Need-returns Inv-loop μ-loop
 returns c =
-    let start = c .before .before .before .before in
+    let start = c .before .before .before in
     seek-done (c .before .before .loop .inv) (omega (arith, length-take (start .args .count) (start .args .values .now)))
 
+cast-if2 : tie.Need-cast-if2 Inv-loop μ-loop
+cast-if2 c = omega (arith, c .shared-slice-known .given (turn c .before .loop .k))
+
 returns-2 : tie.Need-returns-2 Inv-loop μ-loop
-returns-2 c = let read = c .before in seek-here (here read .loop .inv) _ (within read) (next read) (c .if2 .taken)
+returns-2 c = let read = c .before in seek-here (turn read .before .loop .inv) _ (within read) (next read) (c .if2 .taken)
 
 loop-less : tie.Need-loop-less Inv-loop μ-loop
 loop-less c = omega arith
 
 loop-again : tie.Need-loop-again Inv-loop μ-loop
-loop-again c = let read = c .before in seek-more (here read .loop .inv) _ (within read) (next read) (c .if2 .left)
+loop-again c = let read = c .before in seek-more (turn read .before .loop .inv) _ (within read) (next read) (c .if2 .left)
 
 returns-3 : tie.Need-returns-3 Inv-loop μ-loop
 returns-3 c =
-    let start = c .before .before .before in
+    let start = c .before .before in
     seek-done (c .before .loop .inv) (omega (arith, length-take (start .args .count) (start .args .values .now)))
 
 pub stands-in-spec : {M : Type 1} → statement M
@@ -60,7 +64,7 @@ stands-in-spec =
     loop-holds
     returns
     (λ c. search needs)
-    (λ c κs. search needs)
+    cast-if2
     returns-2
     (λ c. search needs)
     loop-less

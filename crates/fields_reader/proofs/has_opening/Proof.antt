@@ -5,6 +5,13 @@ use borrow.Author.Needs.{needs}
 use Rattle.fields_reader.proofs.has_opening.Statement.{statement}
 use Rattle.fields_reader.proofs.has_opening.Tie as tie
 
+-- the bytes are long enough where the first is compared, and the first is right where the second is
+abbrev long : tie.Else2 → tie.Else1
+long c = c .before .before .before
+
+abbrev first : tie.Else3 → tie.Else2
+first c = c .before .before .before
+
 returns : tie.Need-returns
 returns c = opens-short _ _ _ (c .if1 .taken)
 
@@ -12,10 +19,10 @@ returns-2 : tie.Need-returns-2
 returns-2 c = opens-first _ _ _ (c .before .before .before .if1 .left) (c .if2 .taken)
 
 returns-3 : tie.Need-returns-3
-returns-3 c = opens-second _ _ _ (c .before .before .before .before .before .before .if1 .left) (c .before .before .before .if2 .left) (c .if3 .taken)
+returns-3 c = let equal = c .before .before .before in opens-second _ _ _ (long equal .if1 .left) (equal .if2 .left) (c .if3 .taken)
 
 returns-4 : tie.Need-returns-4
-returns-4 c = opens-both _ _ _ (c .before .before .before .before .before .before .if1 .left) (c .before .before .before .if2 .left) (c .if3 .left)
+returns-4 c = opens-both _ _ _ (long (first c) .if1 .left) (first c .if2 .left) (c .if3 .left)
 
 pub has-opening-spec : {M : Type 1} → statement M
 has-opening-spec =
