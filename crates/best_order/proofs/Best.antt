@@ -110,3 +110,13 @@ planning {s} {table} {buffer} {table′} {buffer′} y e filled holds = record {
   leaves-buffer = holds;
   best-order = rw e (best-order s table buffer table′ buffer′ y filled holds);
 }
+
+-- the same of the answer as the contract names it
+pub planning-named : {s table buffer table′ buffer′ : List ℕ} {answer : Answer} → Planning s table buffer table′ buffer′ answer
+    → Planning s table buffer table′ buffer′ (answerOf (endingOn s table buffer))
+planning-named w = record {
+  answer-is = refl;
+  leaves-table = w .leaves-table;
+  leaves-buffer = w .leaves-buffer;
+  best-order = rw (w .answer-is) at (w .best-order);
+}

@@ -3,15 +3,25 @@
 use mathlib.Core.Path.{ap, _∙_}
 use Rattle.refusal.specs.Answers.{answerNumber}
 use Rattle.best_order.proofs.Answers.{answer-fits}
+use Rattle.best_order.proofs.Best.{planning-named}
 use borrow.Author.Needs.{needs}
 use Rattle.kippertarn.proofs.kippertarn_plan.Statement.{statement}
 use Rattle.kippertarn.proofs.kippertarn_plan.Tie as tie
 
+-- where the message is planned
+abbrev planned-at : tie.After-slice-known4 → tie.After-plan
+planned-at c = c .before .before .before .before
+
 answer-number-requires : tie.Need-answer-number-requires
-answer-number-requires c κs = rw (c .before .before .before .before .plan .ensures .0) (answer-fits (c .before .before .before .before .before .before .before .before .before .before .args .message .now) (λ i. c .before .before .before .before .before .before .before .before .before .shared-slice-known .given i .fits) _ _)
+answer-number-requires c κs =
+    let p = planned-at c in
+    let bytes = p .before .before .before .before .before in
+    rw (p .plan .ensures .answer-is) (answer-fits (bytes .before .args .message .now) (λ i. bytes .shared-slice-known .given i .fits) _ _)
 
 returns : tie.Need-returns
-returns c = (c .answer-number .ensures ∙ ap answerNumber (c .before .before .before .before .before .plan .ensures .0), (c .before .before .before .before .before .plan .ensures .1 .0, rw (c .answer-number .ensures) (c .before .before .before .before .before .plan .ensures .1 .1)))
+returns c =
+    let planning = planned-at (c .before) .plan .ensures in
+    (c .answer-number .ensures ∙ ap answerNumber (planning .answer-is), planning-named planning)
 
 pub kippertarn-plan-spec : {M : Type 1} → statement M
 kippertarn-plan-spec =

@@ -1,30 +1,45 @@
 -- `planner::plan` meets its contract: the message's own refusal, or the queue planned.
 -- Assumes nothing.
-use mathlib.Core.Path.{sym, ap, _∙_}
+use mathlib.Core.Path.{_≡_, sym, ap, _∙_}
+use Rattle.fields.proofs.Codecs.{Bytes}
 use Rattle.queue.specs.declared.Reading.{Reading}
+use Rattle.queue.specs.Reading.{readQueue}
 use Rattle.queue_laws.proofs.Theorems.{accepted-valid}
 use Rattle.best_order.proofs.Endings.{message-refused, message-accepted}
-use Rattle.planner.proofs.Ends.{ends-as, ends-refused, promised}
+use Rattle.best_order.proofs.Best.{planning}
+use Rattle.planner.proofs.Ends.{ends-as, ends-refused}
 use borrow.Author.Needs.{needs}
 use Rattle.planner.proofs.plan.Statement.{statement}
 use Rattle.planner.proofs.plan.Tie as tie
 
-plan-queue-requires : tie.Need-plan-queue-requires
-plan-queue-requires c κs =
-    let read = c .before .before .before .before .read-queue .ensures in
-    rw read (accepted-valid (c .before .before .before .before .before .before .before .before .args .message .now) (λ i. c .before .before .before .before .before .before .before .shared-slice-known .given i .fits) (sym (ap (λ (r : Reading). r .verdict) read) ∙ c .before .before .enum-told .given .1))
+-- the function's entry, from where the message is read
+abbrev entry : tie.After-read-queue → tie.Start
+entry c = c .before .before .before .before
+
+bytes : (c : tie.After-read-queue) → Bytes (entry c .args .message .now)
+bytes c i = c .before .before .before .shared-slice-known .given i .fits
+
+verdict-is : (c : tie.After-read-queue) → c .read-queue .result .verdict ≡ readQueue (entry c .args .message .now) .verdict
+verdict-is c = ap (λ (r : Reading). r .verdict) (c .read-queue .ensures)
+
+plan-record-requires : tie.Need-plan-record-requires
+plan-record-requires c κs =
+    let w = c .before .before .before .before in
+    rw (w .read-queue .ensures) (accepted-valid _ (bytes w) (sym (verdict-is w) ∙ c .before .before .enum-told .given .1))
 
 returns : tie.Need-returns
 returns c =
-    let read = c .before .before .before .read-queue .ensures in
-    promised _ _ _ _ _ _ (λ i. c .before .before .before .before .before .before .shared-slice-known .given i .fits)
-    (ends-refused _ _ _ _ (message-refused _ _ _ _ (sym (ap (λ (r : Reading). r .verdict) read) ∙ c .before .verdict .given .1)))
+    let w = c .before .before .before in
+    let ends = ends-refused _ _ (message-refused _ _ _ _ (sym (verdict-is w) ∙ c .before .verdict .given .1)) in
+    planning (bytes w) (ends .0) (ends .1 .0) (ends .1 .1)
 
 returns-2 : tie.Need-returns-2
 returns-2 c =
-    let read = c .before .before .before .before .before .before .before .before .before .read-queue .ensures in
-    promised _ _ _ _ _ _ (λ i. c .before .before .before .before .before .before .before .before .before .before .before .before .shared-slice-known .given i .fits)
-    (ends-as (message-accepted _ _ _ (sym (ap (λ (r : Reading). r .verdict) read) ∙ c .before .before .before .before .before .before .before .enum-told .given .1)) (rw read at (c .before .before .before .before .plan-queue .ensures)))
+    let m = c .before .before .before .before in
+    let told = m .before .before .before in
+    let w = told .before .before in
+    let ends = ends-as _ _ _ (message-accepted _ _ _ (sym (verdict-is w) ∙ told .enum-told .given .1)) (rw (w .read-queue .ensures) at (m .plan-record .ensures)) in
+    planning (bytes w) (ends .0) (ends .1 .0) (ends .1 .1)
 
 pub plan-spec : {M : Type 1} → statement M
 plan-spec =
@@ -33,7 +48,7 @@ plan-spec =
     (λ c κs. search needs)
     (λ c. search needs)
     (λ c. search needs)
-    plan-queue-requires
+    plan-record-requires
     returns
     (λ c. search needs)
     (λ c. search needs)
