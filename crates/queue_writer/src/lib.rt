@@ -74,6 +74,7 @@ fn judge_kinds(jobs: &[u8], count: usize, kinds: u64) -> bool
     true
 }
 
+// A byte as the tests take it.
 fn wide(x: u8) -> u64
     ensures { λ r. ⌜ r ≡ x ⌝ }
 {
