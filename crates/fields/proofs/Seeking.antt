@@ -1,16 +1,36 @@
--- Whether a number stands in a list: the loop that seeks it.
+-- Whether a number stands in a list: by its places, and the loop that seeks it.
 -- Assumes nothing.
-use Prim.Native.Nat.{ℕ, _+_, _<_, _≤_}
+use Prim.Native.Nat.{ℕ, zero, suc, _+_, _<_, _≤_}
 use mathlib.Core.Path.{_≡_, refl, sym, _∙_}
-use mathlib.Core.Bool.{true, false}
-use mathlib.Core.List.{List}
+use mathlib.Core.Bool.{Bool, true, false, _||_, false≢true}
+use mathlib.Core.List.{List, [], _∷_}
+use native.Mathlib.Omega.{arith}
 use native.Mathlib.Numerals.{add-one}
+use lib.Dec.{eqb}
 use lib.ListN.{length, getD, drop, drop-of-length-le}
 use lib.Seq.{drop-cons}
 use borrow.Author.Tests.{eq-eqb, ne-eqb}
 use Rattle.fields.specs.Lists.{standsIn}
 
--- before element k
+or-false : (a b : Bool) → a || b ≡ false → (a ≡ false) × (b ≡ false)
+or-false true b e = absurd (false≢true (sym e))
+or-false false b e = (refl, e)
+
+-- a number that does not stand in a list stands nowhere in it
+pub stands-nowhere : (j : ℕ) (l : List ℕ) (k : ℕ) → standsIn j l ≡ false → k < length l → getD l k 0 ≡ j → ⊥
+unfolding standsIn
+stands-nowhere j [] k e h q = omega arith
+stands-nowhere j (i ∷ l) zero e h q = false≢true (sym (or-false (eqb j i) (standsIn j l) e .0) ∙ eq-eqb j i (sym q))
+stands-nowhere j (i ∷ l) (suc k) e h q = stands-nowhere j l k (or-false (eqb j i) (standsIn j l) e .1) (omega arith) q
+
+pub nowhere-stands : (j : ℕ) (l : List ℕ) → ((k : ℕ) → k < length l → getD l k 0 ≡ j → ⊥) → standsIn j l ≡ false
+unfolding standsIn
+nowhere-stands j [] h = refl
+nowhere-stands j (i ∷ l) h =
+    rw (ne-eqb j i (λ q. h 0 (omega arith) (sym q)), nowhere-stands j l (λ k u q. h (suc k) (omega arith) q))
+
+-- ---- the loop before element k
+
 pub record Seeking (xs : List ℕ) (v k : ℕ) : Type 0 where
   pub means : standsIn v xs ≡ standsIn v (drop k xs)
 

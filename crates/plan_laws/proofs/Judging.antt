@@ -11,10 +11,11 @@ use borrow.Author.Tests.{not-true}
 use Rattle.fields.specs.Fields.{within}
 use Rattle.fields.proofs.Judged.{and-true, within-true, true-within}
 use Rattle.fields.specs.Lists.{standsIn}
+use Rattle.fields.proofs.Orders.{in-order-places}
+use Rattle.fields.proofs.Seeking.{stands-nowhere, nowhere-stands}
 use Rattle.plan.specs.declared.Plan.{Plan}
 use Rattle.plan.specs.Record.{fresh, job, jobList, Valid}
 use Rattle.plan.specs.Writing.{allFresh}
-use Rattle.plan_laws.proofs.Fresh.{stands-nowhere, nowhere-stands, fresh-places, places-fresh}
 use Rattle.plan_laws.proofs.JobLists.{job-listed, job-list-length}
 
 -- 01's bounds on a plan's numbers and its list of jobs
@@ -41,7 +42,7 @@ module _ (p : Plan) where
     costs = v .cost;
     counts = v .states;
     few = v .jobs;
-    each = places-fresh t js (λ i h.
+    each = in-order-places (fresh t) 0 js .1 (λ i h.
         let u : i < t = omega (arith, job-list-length p) in
         let r = v .in-range (i + 1) (omega arith) (omega arith) in
         let here = same-place i u in
@@ -55,7 +56,7 @@ module _ (p : Plan) where
   pub bounded-valid : Bounded (p .goal) (p .cost) (p .«feasible_states») (p .jobs) (jobList p) → Valid p
   bounded-valid b =
       let size = job-list-length p in
-      let fresh-at : (i : ℕ) → i < t → fresh t (take i js) (getD js i 0) ≡ true = λ i h. fresh-places t js (b .each) i (omega arith) in
+      let fresh-at : (i : ℕ) → i < t → fresh t (take i js) (getD js i 0) ≡ true = λ i h. in-order-places (fresh t) 0 js .0 (b .each) i (omega arith) in
       record {
         goal = b .goals;
         cost = b .costs;

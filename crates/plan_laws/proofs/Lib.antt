@@ -1,4 +1,3 @@
-pub mod Fresh
 pub mod JobLists
 pub mod Judging
 pub mod Format
