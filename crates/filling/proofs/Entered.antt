@@ -1,6 +1,6 @@
 -- What the entries of one k get is their states' values.
 -- Assumes nothing.
-use Prim.Native.Nat.{ℕ, _+_, _-_, _≤_, _<_}
+use Prim.Native.Nat.{ℕ, _-_, _≤_}
 use mathlib.Core.Bool.{Bool, true, false, _&&_}
 use mathlib.Core.List.{List}
 use mathlib.Core.Logic.{inl, inr}
@@ -9,7 +9,7 @@ use mathlib.Core.Path.{_≡_, refl, sym, ap, _∙_}
 use native.Mathlib.Nat.{eq-zero-or-pos}
 use native.Mathlib.Omega.{arith}
 use lib.Dec.{ltb}
-use lib.ListN.{length, take}
+use lib.ListN.{take}
 use borrow.Author.Tests.{eq-eqb, ne-eqb}
 use Rattle.queue.specs.declared.Queue.{Queue}
 use Rattle.sequencing.specs.Lists.{at, sum}
@@ -48,6 +48,7 @@ module _ {q : Queue} {l : Layout} {table left : List ℕ} (n : JobsLeft) (s : Lo
   jobs-left : n .jobs ≡ sum k
   jobs-left = summed .jobs-are ∙ ap sum (s .left-at .here)
 
+  -- 01's place of the jobs just cut
   there : l .size .jobs - n .jobs ≡ place (problem q) k
   there = omega (arith, s .prepared .jobs-are, jobs-is q, jobs-left)
 
@@ -61,6 +62,7 @@ module _ {q : Queue} {l : Layout} {table left : List ℕ} (n : JobsLeft) (s : Lo
       rw (left-is s L a, earliest-at (s .valid) (s .prepared) L (at k L) a b (few L), latest-at (s .valid) (s .prepared) L (at k L) a b (few L), there)
       (permitted-at q L (at k L) (place (problem q) k))
 
+  -- what an entry gets is its state's value
   pub entry-is-value : (L : ℕ) → 1 ≤ L → L ≤ q .kinds → entryFrom table (arraysOf q l left) (l .size) (q .goal) n L ≡ value (problem q) L k
   unfolding entryFrom
   entry-is-value L a b =
@@ -70,6 +72,7 @@ module _ {q : Queue} {l : Layout} {table left : List ℕ} (n : JobsLeft) (s : Lo
         | inr h ↦ rw (ne-eqb (sum k) 0 (λ e. omega arith)) (ap (permit (problem q) L k) (least-is s L) ∙ sym (value-some-left (problem q) L k h))
       ])
 
+  -- what filling the states of this k may rely on
   pub fillable : Fillable table (arraysOf q l left) (l .size) (q .goal) n
   fillable = record {
     few = omega (arith, s .prepared .kinds-are, s .valid .kinds);

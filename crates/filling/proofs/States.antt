@@ -58,30 +58,35 @@ kinds-none = record {
   at-most = omega arith;
 }
 
-module _ {table₀ : List ℕ} {a : Arrays} {s : Size} {goal : ℕ} {k : JobsLeft} (f : Fillable table₀ a s goal k) {next : List ℕ} {weight : ℕ}
-    (n : next ≡ nextOf table₀ a s goal k) (v : weight ≡ weightOf table₀ a s goal k) where
+-- what the loop is given: the entries of the next states, and 01's W
+pub record Loaded (table₀ : List ℕ) (a : Arrays) (s : Size) (goal : ℕ) (k : JobsLeft) (next : List ℕ) (weight : ℕ) : Type 0 where
+  pub fillable : Fillable table₀ a s goal k
+  pub next-is : next ≡ nextOf table₀ a s goal k
+  pub weight-is : weight ≡ weightOf table₀ a s goal k
+
+module _ {table₀ : List ℕ} {a : Arrays} {s : Size} {goal : ℕ} {k : JobsLeft} {next : List ℕ} {weight : ℕ} (g : Loaded table₀ a s goal k next weight) where
   abbrev entry : ℕ → Option ℕ
   entry = entryBy a next weight (k .jobs) (s .jobs - k .jobs)
 
   entry-is : (L : ℕ) → entry L ≡ entryFrom table₀ a s goal k L
   unfolding entryFrom
-  entry-is L = rw (n, v)
+  entry-is L = rw (g .next-is, g .weight-is)
 
   entry-fits : (L : ℕ) → 1 ≤ L → L ≤ s .kinds → Fits (entry L)
   entry-fits L l u =
       let all = candidate (nextOf table₀ a s goal k) (a .gaps) L (weightOf table₀ a s goal k) in
-      rw (n, v)
+      rw (g .next-is, g .weight-is)
       (fits-only (inPlace table₀ a s goal k L) (cond (eqb (k .jobs) 0) (some 0) (least all 5))
-      (fits-cond (eqb (k .jobs) 0) (some 0) (least all 5) (omega arith) (fits-least all 5 (candidate-fits (f .ready L l u)))))
+      (fits-cond (eqb (k .jobs) 0) (some 0) (least all 5) (omega arith) (fits-least all 5 (candidate-fits (g .fillable .ready L l u)))))
 
   -- what a state's value may rely on
   pub state-ready : (L : ℕ) → 1 ≤ L → L ≤ s .kinds → Ready next (a .gaps) L weight × (goal ≡ 1 → weight ≡ 1)
-  state-ready L l u = (rw (n, v) (f .ready L l u), λ e. v ∙ rw (eq-eqb goal 1 e))
+  state-ready L l u = (rw (g .next-is, g .weight-is) (g .fillable .ready L l u), λ e. g .weight-is ∙ rw (eq-eqb goal 1 e))
 
   module _ {table : List ℕ} {feasible kind : ℕ} (w : KindsUpTo entry (s .kinds) (s .block) (k .index) table₀ table feasible kind) where
     module _ (h : kind < s .kinds) where
       pub entry-in : kind * s .block + k .index < length table
-      entry-in = rw (w .long) (lt-of-lt-of-le (digits-lt h (f .loadable .index-in)) (f .room))
+      entry-in = rw (w .long) (lt-of-lt-of-le (digits-lt h (g .fillable .loadable .index-in)) (g .fillable .room))
 
       pub kinds-more : {value : ℕ} → value ≡ stored (entry (suc kind))
           → KindsUpTo entry (s .kinds) (s .block) (k .index) table₀ (set table (kind * s .block + k .index) value) (feasible + valued (loaded value)) (kind + 1)
@@ -94,7 +99,7 @@ module _ {table₀ : List ℕ} {a : Arrays} {s : Size} {goal : ℕ} {k : JobsLef
             long = length-set table at value ∙ w .long;
             done =
                 below-more (λ (l : ℕ). getD (set table at value) (l * s .block + k .index) 0 ≡ stored (entry (suc l))) kind
-                (λ l u. getD-set-other table at (l * s .block + k .index) value 0 (λ q. omega (arith, same-block (s .block) l kind (k .index) (f .loadable .index-in) q)) ∙ w .done l u)
+                (λ l u. getD-set-other table at (l * s .block + k .index) value 0 (λ q. omega (arith, same-block (s .block) l kind (k .index) (g .fillable .loadable .index-in) q)) ∙ w .done l u)
                 (getD-set-same table at value 0 entry-in ∙ e);
             rest = λ m other. getD-set-other table at m value 0 (other kind (omega arith)) ∙ w .rest m (λ l u. other l (omega arith));
             many = rw (add-one kind, sum-more, last) (omega (arith, one, w .many));
@@ -108,5 +113,5 @@ module _ {table₀ : List ℕ} {a : Arrays} {s : Size} {goal : ℕ} {k : JobsLef
           long = w .long;
           filled-at = λ L l u. let r : suc (L - 1) ≡ L = omega arith in rw r at (w .done (L - 1) (omega arith) ∙ ap stored (entry-is (suc (L - 1))));
           rest = λ m other. w .rest m (λ l u q. let r : suc l - 1 ≡ l = omega arith in other (suc l) (omega arith) (omega (arith, w .few)) (rw r q));
-          many = (rw e at (w .many)) ∙ ap (λ g. sum (map g (upto (s .kinds)))) (fun-ext (λ L. ap valued (entry-is L)));
+          many = (rw e at (w .many)) ∙ ap (λ (e : ℕ → ℕ). sum (map e (upto (s .kinds)))) (fun-ext (λ L. ap valued (entry-is L)));
         }

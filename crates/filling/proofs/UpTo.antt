@@ -12,7 +12,7 @@ use lib.ListN.{length, getD, take, drop, replicate}
 use lib.Seq.{length-take-le}
 use Rattle.queue.specs.declared.Queue.{Queue}
 use Rattle.queue.specs.Record.{Valid}
-use Rattle.sequencing.specs.Lists.{from, upto, sum, weigh}
+use Rattle.sequencing.specs.Lists.{from, upto, sum}
 use Rattle.sequencing.specs.States.{allLeft}
 use Rattle.sequencing.specs.Recursion.{value}
 use Rattle.sequencing.specs.Entries.{digits, block, entries, stored, FilledTable}
@@ -33,7 +33,7 @@ use Rattle.jobs_left.proofs.LeftAt.{take-zeros, left-none, left-step}
 use Rattle.layout.specs.declared.Layout.{Layout}
 use Rattle.layout.specs.Prepared.{Prepared}
 use Rattle.layout.proofs.Prepared.{counts-long, counts-take}
-use Rattle.filling.specs.Filling.{Earlier, entryFrom, StatesFilled}
+use Rattle.filling.specs.Filling.{Earlier, StatesFilled}
 use Rattle.filling.proofs.Values.{Look}
 use Rattle.filling.proofs.Entered.{arraysOf, entry-is-value}
 use Rattle.filling.proofs.Tables.{entry-below, filled-table}
@@ -53,7 +53,7 @@ countAt q i = sum (map (λ L. valued (value (problem q) L (digits (allLeft (prob
 -- the k before this one are filled, and their feasible states counted
 pub record UpTo (q : Queue) (table₀ table left : List ℕ) (feasible : ℕ) (k : JobsLeft) : Type 0 where
   pub long : length table ≡ length table₀
-  pub upto : k .index ≤ block (problem q)
+  pub within : k .index ≤ block (problem q)
   pub left-at : k .index < block (problem q) → LeftAt (problem q) left (k .index)
   pub summed : Summed (q .weights) (take (q .kinds) left) (k .jobs) (k .weight)
   pub done : Earlier (problem q) table (k .index)
@@ -78,7 +78,7 @@ module _ {q : Queue} {l : Layout} {table₀ : List ℕ} (g : Given q l table₀)
   unfolding from sum
   upto-none = record {
     long = refl;
-    upto = omega arith;
+    within = omega arith;
     left-at = λ h. left-none (g .valid .kinds .1);
     summed = sums-none (q .weights) (q .kinds) (g .valid .kinds .1);
     done = λ L j a u h. absurd (omega arith);
@@ -163,7 +163,7 @@ module _ {q : Queue} {l : Layout} {table₀ : List ℕ} (g : Given q l table₀)
             let step : take (q .kinds) left′ ≡ next (allLeft (problem q)) (take (q .kinds) left) = rw (← (counts-take (g .valid) (g .prepared)), ← (g .prepared .kinds-are)) stepped in
             rw (e, add-one (k .index)) record {
               long = f .long ∙ w .long;
-              upto = in-block;
+              within = in-block;
               left-at = λ b. left-step (looking .left-at) b (same ∙ looking .left-at .long) step (rw (g .prepared .kinds-are) at rest);
               summed = rw (g .prepared .kinds-are) at summed;
               done = stored-so-far;
@@ -175,5 +175,5 @@ module _ {q : Queue} {l : Layout} {table₀ : List ℕ} (g : Given q l table₀)
     -- all are filled
     pub upto-done : l .size .block ≤ k .index → FilledTable (problem q) table₀ table × (feasible ≡ feasibleStates (problem q))
     upto-done h =
-        let e : k .index ≡ block (problem q) = omega (arith, w .upto, g .prepared .block-is) in
+        let e : k .index ≡ block (problem q) = omega (arith, w .within, g .prepared .block-is) in
         (filled-table (problem q) table₀ table (w .long) (rw e at (w .done)) (w .past), w .counted ∙ rw e (counted-by-left q (g .valid)))

@@ -16,14 +16,14 @@ Inv-loop queue table₀ size gaps weights counts strides slots earliest latest l
 abbrev μ-loop : tie.MeasureT-loop
 μ-loop queue table₀ size gaps weights counts strides slots earliest latest left₀ k₀ feasible₀ table left k feasible = size .block - k .index
 
--- the function's entry, before the loop
+-- the function's entry, from where the arrays were copied
 abbrev counted : tie.After-counts Inv-loop μ-loop → tie.Start Inv-loop μ-loop
 counted c = c .before .before .before .before .before
 
-abbrev entry : tie.At-loop Inv-loop μ-loop → tie.Start Inv-loop μ-loop
-entry c = counted (c .before .before .before .before .before)
+abbrev copied : tie.After-latest Inv-loop μ-loop → tie.Start Inv-loop μ-loop
+copied c = counted (c .before .before .before .before)
 
--- in a turn: its beginning, and where the states are filled
+-- a turn: its beginning, from where left is lent, where the states are filled, and where left is lent again
 abbrev loop : tie.Then1 Inv-loop μ-loop → tie.At-loop Inv-loop μ-loop
 loop c = c .before .before .before
 
@@ -39,11 +39,11 @@ filled c = c .before .before .before
 given : (c : tie.Start Inv-loop μ-loop) → Given (c .args .queue) (c .args .layout) (c .args .table .now)
 given c = record { valid = c .pre .0; prepared = c .pre .1 .0; room = c .pre .1 .1; gaps-long = search needs; weights-long = search needs }
 
-look : (c : tie.Then1 Inv-loop μ-loop) → Look (entry (loop c) .args .queue) (entry (loop c) .args .layout) (loop c .loop .table) (loop c .loop .left) (loop c .loop .k .index)
-look c = looking (given (entry (loop c))) (loop c .loop .inv) (c .if1 .taken)
+look : (c : tie.Then1 Inv-loop μ-loop) → Look (copied (loop c .before) .args .queue) (copied (loop c .before) .args .layout) (loop c .loop .table) (loop c .loop .left) (loop c .loop .k .index)
+look c = looking (given (copied (loop c .before))) (loop c .loop .inv) (c .if1 .taken)
 
 loop-holds : tie.Need-loop-holds Inv-loop μ-loop
-loop-holds c = upto-none (given (counted (c .before .before .before .before)))
+loop-holds c = upto-none (given (copied c))
 
 slice-aggregate-fill-states : tie.Need-slice-aggregate-fill-states Inv-loop μ-loop
 slice-aggregate-fill-states c = sym (look (lent c) .left-at .long)
@@ -69,7 +69,7 @@ fill-states-requires c κs = let t = lent (c .before .before .before .before .be
 add-feasible : tie.Need-add-feasible Inv-loop μ-loop
 add-feasible c =
     let t = turn (c .before .before) in
-    record { fits = count-fits (given (entry (loop t))) (loop t .loop .inv) (t .if1 .taken) (c .before .before .fill-states .ensures) }
+    record { fits = count-fits (given (copied (loop t .before))) (loop t .loop .inv) (t .if1 .taken) (c .before .before .fill-states .ensures) }
 
 slice-aggregate-step-left : tie.Need-slice-aggregate-step-left Inv-loop μ-loop
 slice-aggregate-step-left c = sym (look (turn (filled c)) .left-at .long)
@@ -78,20 +78,20 @@ slice-aggregate-step-left-2 : tie.Need-slice-aggregate-step-left-2 Inv-loop μ-l
 slice-aggregate-step-left-2 c = let s = look (turn (filled (c .before))) in sym (counts-long (s .valid) (s .prepared))
 
 slice-aggregate-step-left-3 : tie.Need-slice-aggregate-step-left-3 Inv-loop μ-loop
-slice-aggregate-step-left-3 c = sym (given (entry (loop (turn (filled (c .before .before))))) .weights-long)
+slice-aggregate-step-left-3 c = sym (given (copied (loop (turn (filled (c .before .before))) .before)) .weights-long)
 
 step-left-requires : tie.Need-step-left-requires Inv-loop μ-loop
-step-left-requires c κs = let t = turn (filled (c .before .before)) in may-step (given (entry (loop t))) (loop t .loop .inv) (t .if1 .taken)
+step-left-requires c κs = let t = turn (filled (c .before .before)) in may-step (given (copied (loop t .before))) (loop t .loop .inv) (t .if1 .taken)
 
 loop-again : tie.Need-loop-again Inv-loop μ-loop
 loop-again c =
     let f = filled (c .before .before .before .before) in
     let t = turn f in
     let step = c .before .step-left in
-    upto-more (given (entry (loop t))) (loop t .loop .inv) (t .if1 .taken) (f .fill-states .ensures) (step .kept .0) (step .ensures .0) (step .ensures .1 .0) (step .ensures .1 .1 .0) (step .ensures .1 .1 .1)
+    upto-more (given (copied (loop t .before))) (loop t .loop .inv) (t .if1 .taken) (f .fill-states .ensures) (step .kept .0) (step .ensures .0) (step .ensures .1 .0) (step .ensures .1 .1 .0) (step .ensures .1 .1 .1)
 
 returns : tie.Need-returns Inv-loop μ-loop
-returns c = let s = c .before .before .before in upto-done (given (entry s)) (s .loop .inv) (c .if1 .left)
+returns c = let s = c .before .before .before in upto-done (given (copied (s .before))) (s .loop .inv) (c .if1 .left)
 
 pub fill-spec : {M : Type 1} → statement M
 fill-spec =

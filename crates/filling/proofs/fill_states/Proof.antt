@@ -5,7 +5,7 @@ use native.Mathlib.Numerals.{add-one}
 use native.Mathlib.Omega.{arith}
 use lib.ListN.{length, getD}
 use Rattle.filling.specs.Filling.{Arrays}
-use Rattle.filling.proofs.States.{entryBy, KindsUpTo, kinds-none, state-ready, entry-in, kinds-more, kinds-done}
+use Rattle.filling.proofs.States.{entryBy, KindsUpTo, Loaded, kinds-none, state-ready, entry-in, kinds-more, kinds-done}
 use borrow.Author.Needs.{needs}
 use Rattle.filling.proofs.fill_states.Statement.{statement}
 use Rattle.filling.proofs.fill_states.Tie as tie
@@ -30,6 +30,9 @@ entry c = lent (weighed c .before)
 abbrev args : tie.After-load-next Inv-loop μ-loop → Arrays
 args c = let a = entry c .args in record { left = a .left .now; strides = a .strides .now; slots = a .slots .now; earliest = a .earliest .now; latest = a .latest .now; gaps = a .gaps .now }
 
+loaded : (c : tie.After-load-next Inv-loop μ-loop) → let a = entry c .args in Loaded (a .table .now) (args c) (a .size) (a .goal) (a .k) (c .load-next .result) (weighed c .step-weight .result)
+loaded c = record { fillable = entry c .pre; next-is = c .load-next .ensures; weight-is = weighed c .step-weight .ensures }
+
 abbrev turn : tie.After-shared-slice-known10 Inv-loop μ-loop → tie.In-loop Inv-loop μ-loop
 turn c = c .before .before .before .before .before
 
@@ -44,9 +47,7 @@ in-slot c = entry (c .before .before) .pre .slot-in (suc (c .before .loop .kind)
 
 -- the entry of (L; k)
 in-table : (c : tie.In-loop Inv-loop μ-loop) → c .before .loop .kind * entry (c .before .before) .args .size .block + entry (c .before .before) .args .k .index < length (c .before .loop .table)
-in-table c =
-    let s = c .before .before in
-    entry-in (entry s .pre) (s .load-next .ensures) (weighed s .step-weight .ensures) (c .before .loop .inv) (c .loop-test .taken)
+in-table c = entry-in (loaded (c .before .before)) (c .before .loop .inv) (c .loop-test .taken)
 
 cast-slot : tie.Need-cast-slot Inv-loop μ-loop
 cast-slot c = omega (arith, in-slot (c .before .before))
@@ -62,8 +63,7 @@ shared-slice-read-state-value-2 c = in-slot (turn c) .1
 
 state-value-requires : tie.Need-state-value-requires Inv-loop μ-loop
 state-value-requires c κs =
-    let s = turn c .before .before in
-    state-ready (entry s .pre) (s .load-next .ensures) (weighed s .step-weight .ensures) (turn c .before .loop .kind + 1) (omega arith) (omega (arith, turn c .loop-test .taken))
+    state-ready (loaded (turn c .before .before)) (turn c .before .loop .kind + 1) (omega arith) (omega (arith, turn c .loop-test .taken))
 
 mul-table : tie.Need-mul-table Inv-loop μ-loop
 mul-table c = omega (arith, in-table (turn (c .before)))
@@ -80,14 +80,10 @@ slice-write-table c = in-table (turn (c .before))
 loop-again : tie.Need-loop-again Inv-loop μ-loop
 loop-again c =
     let t = turn (c .before .before) in
-    let s = t .before .before in
-    rw (c .counted .ensures)
-    (kinds-more (entry s .pre) (s .load-next .ensures) (weighed s .step-weight .ensures) (t .before .loop .inv) (t .loop-test .taken) (rw add-one at (c .before .state-value .ensures)))
+    rw (c .counted .ensures) (kinds-more (loaded (t .before .before)) (t .before .loop .inv) (t .loop-test .taken) (rw add-one at (c .before .state-value .ensures)))
 
 returns : tie.Need-returns Inv-loop μ-loop
-returns c =
-    let s = c .before .before in
-    kinds-done (entry s .pre) (s .load-next .ensures) (weighed s .step-weight .ensures) (c .before .loop .inv) (c .loop-test .left)
+returns c = kinds-done (loaded (c .before .before)) (c .before .loop .inv) (c .loop-test .left)
 
 pub fill-states-spec : {M : Type 1} → statement M
 fill-states-spec =
