@@ -90,11 +90,11 @@ module _ {S A Given : Type 0} {wide far : ℕ} {whys : List Reason} (one : S →
         )
         (ap (found (a ∷ xs)) (omega (arith, length-append X Y)))
 
-    pub run-short : (state : S) (xs : List A) → RunOk state xs → length (runBytes state xs) ≤ length xs * wide
+    run-short : (state : S) (xs : List A) → RunOk state xs → length (runBytes state xs) ≤ length xs * wide
     run-short state [] k = omega arith
     run-short state (a ∷ more) k = rw (length-append, suc-mul) (omega (arith, one state .short z a (k .0), run-short (step state a) more (k .1)))
 
-    pub run-same : (n : ℕ) (state : S) (s : List ℕ) (at m : ℕ) → Bytes s → at + n * wide + far ≤ m + wide → run n state (take m s) at ≡ run n state s at
+    run-same : (n : ℕ) (state : S) (s : List ℕ) (at m : ℕ) → Bytes s → at + n * wide + far ≤ m + wide → run n state (take m s) at ≡ run n state s at
     unfolding inOrder
     run-same zero state s at m y h = refl
     run-same (suc n) state s at m y h =
