@@ -1,4 +1,4 @@
--- What stands past N and T in a record makes no difference to the verdict on it and to its message: both are those of its parts.
+-- What stands past N and T in a record makes no difference to a writer: the verdict and the message are those of the record's parts.
 -- Assumes nothing.
 use Prim.Native.Nat.{ℕ, _<_, _≤_}
 use mathlib.Core.Path.{_≡_, refl, sym, ap, _∙_}
@@ -8,14 +8,14 @@ use Rattle.refusal.specs.declared.Reason.the-variants.{Kinds, Jobs}
 use Rattle.refusal.specs.declared.Verdict.{Verdict}
 use Rattle.refusal.specs.declared.Verdict.the-variants.{Accepted, Refused}
 use Rattle.number.proofs.Steps.{below-or-not}
+use Rattle.fields.specs.Messages.{_before_}
 use Rattle.fields.proofs.Judged.{high-out}
 use Rattle.fields.proofs.Codecs.{all-map}
 use Rattle.queue.specs.declared.Queue.{Queue}
 use Rattle.queue.specs.Record.{rows, Valid}
 use Rattle.queue.specs.Reading.{cleared}
 use Rattle.queue.specs.Writing.{message, judgeSettings, judgeTables, judgeHead, judgeJobs, judge, writeQueue, writtenQueue}
-use Rattle.fields.specs.Messages.{_before_}
-use Rattle.queue_laws.proofs.Format.{Parts, tablesFormat, queueFormat}
+use Rattle.queue_laws.proofs.Format.{Parts, settingsOf, tablesFormat, queueFormat}
 use Rattle.queue_laws.proofs.Message.{view, TablesFit, tables-back, kinds-back, sized, message-is, judge-is}
 use Rattle.queue_laws.proofs.Theorems.{judged-exactly}
 
@@ -28,9 +28,10 @@ module _ (q r : Queue) (same : view q ≡ view r) where
   same-message = message-is q ∙ ap (λ (p : Parts). (0x51 ∷ 0x53 ∷ []) ++ queueFormat .write p) same ∙ sym (message-is r)
 
 module _ (q : Queue) where
+  -- a record's tables fit its arrays
   tables-fit : q .kinds ≤ 5 → TablesFit (view q)
   tables-fit five =
-      let (gaps, (weights, windows)) = sized q .1 .1 .0 in
+      let (_, (_, ((gaps, (weights, windows)), _))) = sized q in
       record { few = five; rows = gaps .0; columns = all-map _ _ (rows q) (λ r h. h .0) (gaps .1); weights = weights .0; windows = windows .0 }
 
   -- the parts of a record within the arrays' bounds are those of the record with 0 past N and T
@@ -39,7 +40,7 @@ module _ (q : Queue) where
   cleared-view five few =
       let tables = tables-back (view q) (tables-fit five) in
       let kinds = kinds-back (view q) (sized q .1 .1 .1 .1 .0) few in
-      λ i. (1, (view q .1 .0, (tables i, (q .jobs, kinds i))))
+      λ i. (1, (settingsOf (view q), (tables i, (q .jobs, kinds i))))
 
   -- a record with too many kinds or jobs is refused before the arrays that cannot hold so many are looked at
   many-kinds : 5 < q .kinds → judge q ≡ Refused Kinds

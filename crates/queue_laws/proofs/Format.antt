@@ -11,10 +11,10 @@ use Rattle.refusal.specs.declared.Reason.the-variants.{Edition, Kinds, Goal, Sh
 use Rattle.number.specs.Numbers.{encode}
 use Rattle.number.proofs.Encoding.{length-encode}
 use Rattle.fields.specs.Fields.{within, all}
+use Rattle.fields.specs.Messages.{check}
 use Rattle.queue.specs.declared.Settings.{Settings}
 use Rattle.queue.specs.Record.{windowOk}
 use Rattle.queue.proofs.Windows.{good-window, window-good}
-use Rattle.fields.specs.Messages.{check}
 use Rattle.formats.proofs.Verdicts.{judged-accepts}
 use Rattle.formats.proofs.Formats.{Format}
 use Rattle.formats.proofs.Telling.{rejudged, mapped}
@@ -55,7 +55,10 @@ windowFormat =
     })
 
 -- gap rows 0 to N (N numbers each), w_1 .. w_N, a_1 b_1 .. a_N b_N
-abbrev pub tablesFormat : {Given : Type 0} (n : ℕ) → (Given → n ≤ 5) → Format (List (List ℕ) × (List ℕ × List (ℕ × ℕ))) Given 110 114 (Gap ∷ Pupils ∷ Places ∷ [])
+abbrev pub Tables : Type 0
+Tables = List (List ℕ) × (List ℕ × List (ℕ × ℕ))
+
+abbrev pub tablesFormat : {Given : Type 0} (n : ℕ) → (Given → n ≤ 5) → Format Tables Given 110 114 (Gap ∷ Pupils ∷ Places ∷ [])
 tablesFormat n few =
     andNext (alike (numbers n 5 few 0 65535 Gap 3 (omega arith) (λ z. (omega arith, omega arith))) (all (within 0 65535)) Gap (λ row. refl) (n + 1) 6 (λ z. let k = few z in omega arith)) λ rows.
     andNext (numbers n 5 (λ z. few (z .0)) 0 1000 Pupils 2 (omega arith) (λ z. (omega arith, omega arith))) λ weights.
@@ -69,20 +72,23 @@ jobsFormat n few =
 
 -- edition, settings, tables, jobs
 abbrev pub Parts : Type 0
-Parts = ℕ × (Settings × ((List (List ℕ) × (List ℕ × List (ℕ × ℕ))) × (ℕ × List ℕ)))
+Parts = ℕ × (Settings × (Tables × (ℕ × List ℕ)))
 
 module _ (p : Parts) where
   abbrev pub settingsOf : Settings
   settingsOf = p .1 .0
 
+  abbrev pub tablesOf : Tables
+  tablesOf = p .1 .1 .0
+
   abbrev pub rowsOf : List (List ℕ)
-  rowsOf = p .1 .1 .0 .0
+  rowsOf = tablesOf .0
 
   abbrev pub weightsOf : List ℕ
-  weightsOf = p .1 .1 .0 .1 .0
+  weightsOf = tablesOf .1 .0
 
   abbrev pub windowsOf : List (ℕ × ℕ)
-  windowsOf = p .1 .1 .0 .1 .1
+  windowsOf = tablesOf .1 .1
 
   abbrev pub jobsOf : ℕ
   jobsOf = p .1 .1 .1 .0

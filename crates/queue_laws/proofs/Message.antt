@@ -8,24 +8,24 @@ use lib.ListN.{length, getD, length-map}
 use Rattle.refusal.specs.declared.Reason.{Reason}
 use Rattle.refusal.specs.declared.Reason.the-variants.{Opening, LeftOver, Edition, Kinds, Goal, Shift, Start, Gap, Pupils, Places, Jobs, Kind}
 use Rattle.refusal.specs.declared.Verdict.the-variants.{Accepted}
+use Rattle.number.specs.Numbers.{encode}
+use Rattle.fields.specs.Fields.{encodeAll}
 use Rattle.fields.specs.Lists.{tabulate, filled}
+use Rattle.fields.proofs.Orders.{kept}
 use Rattle.fields.proofs.Codecs.{All, all-map}
 use Rattle.fields.proofs.Tables.{length-tabulate, all-tabulate, tabulate-all}
 use Rattle.fields.proofs.Arrays.{array-back, tabulate-pairs}
 use Rattle.queue.specs.declared.Queue.{Queue}
 use Rattle.queue.specs.Record.{gap, weight, firstPlace, lastPlace, kind, rows, weightList, windows, kindList, Valid, Fits}
 use Rattle.queue.specs.Reading.{settings, tables, head, headOf, withJobs, jobs, queue, cleared}
-use Rattle.number.specs.Numbers.{encode}
-use Rattle.fields.specs.Fields.{encodeAll}
 use Rattle.queue.specs.Writing.{encodeWindow, headBytes, jobBytes, message, judgeSettings, judgeTables, judgeHead, judgeJobs, judge}
 use Rattle.formats.proofs.Verdicts.{before-assoc}
 use Rattle.formats.proofs.Pairs.{and-assoc}
-use Rattle.fields.proofs.Orders.{kept}
 use Rattle.formats.proofs.Runs.{InTurn, each-all, all-any}
 use Rattle.formats.proofs.Whole.{whole}
 use Rattle.formats.proofs.Messages.{Message, Tied, laws}
 use Rattle.queue_laws.proofs.GapRows.{rows-back}
-use Rattle.queue_laws.proofs.Format.{WindowOk, settingsFormat, Parts, settingsOf, rowsOf, weightsOf, windowsOf, jobsOf, kindsOf, queueFormat}
+use Rattle.queue_laws.proofs.Format.{WindowOk, settingsFormat, Parts, settingsOf, tablesOf, rowsOf, weightsOf, windowsOf, jobsOf, kindsOf, queueFormat}
 
 -- a record's parts, up to N and T
 abbrev pub view : Queue → Parts
@@ -58,7 +58,7 @@ judge-is q = before-assoc (judgeSettings q) (judgeTables q) (judgeJobs q)
 -- settings that are accepted have at most 5 kinds
 pub few-kinds : (q : Queue) → judgeSettings q ≡ Accepted → q .kinds ≤ 5
 unfolding judgeSettings
-few-kinds q e = settingsFormat {Given = Unit {0}} .accepts tt (view q .1 .0) (tt, (tt, (tt, tt))) .0 e .0 .1
+few-kinds q e = settingsFormat {Given = Unit {0}} .accepts tt (settingsOf (view q)) (tt, (tt, (tt, tt))) .0 e .0 .1
 
 -- ---- a record made of parts holds them
 
@@ -71,7 +71,7 @@ pub record TablesFit (p : Parts) : Type 0 where
   pub windows : length (windowsOf p) ≡ settingsOf p .kinds
 
 module _ (p : Parts) where
-  pub tables-back : TablesFit p → view (make p) .1 .1 .0 ≡ p .1 .1 .0
+  pub tables-back : TablesFit p → tablesOf (view (make p)) ≡ tablesOf p
   tables-back fit =
       let n = settingsOf p .kinds in
       let ws = windowsOf p in
