@@ -6,5 +6,6 @@ pub mod Numbers
 pub mod Pairs
 pub mod Runs
 pub mod Repeated
+pub mod Ordered
 pub mod Whole
 pub mod Messages

@@ -21,12 +21,13 @@ use Rattle.plan.specs.declared.Plan.{Plan}
 use Rattle.plan.specs.Record.{fresh, job, jobList, Valid}
 use Rattle.plan.specs.Reading.{order, plan, planOf, cleared}
 use Rattle.plan.specs.Writing.{message, allFresh, judge}
-use Rattle.formats.proofs.Verdicts.{judged-accepts, in-turn-tested}
+use Rattle.formats.proofs.Verdicts.{judged-accepts}
 use Rattle.formats.proofs.Formats.{Format}
-use Rattle.formats.proofs.Telling.{retold, rejudged}
-use Rattle.formats.proofs.Numbers.{anyNumber, tested, oneByte}
+use Rattle.formats.proofs.Telling.{rejudged}
+use Rattle.formats.proofs.Numbers.{anyNumber, oneByte}
 use Rattle.formats.proofs.Pairs.{andNext, and-assoc}
-use Rattle.formats.proofs.Runs.{each-all, all-any, inTurns, run-flat}
+use Rattle.formats.proofs.Runs.{each-all}
+use Rattle.formats.proofs.Ordered.{ordered}
 use Rattle.formats.proofs.Whole.{whole}
 use Rattle.formats.proofs.Messages.{Message, Tied, laws}
 use Rattle.plan_laws.proofs.JobLists.{held, job-list-length}
@@ -34,29 +35,10 @@ use Rattle.plan_laws.proofs.Judging.{valid-bounded, bounded-valid}
 
 -- ---- the job at each place
 
-abbrev freshFormat : {Given : Type 0} (t : ℕ) → (Given → t ≤ 60) → List ℕ → Format ℕ Given 1 3 (Job ∷ [])
-freshFormat t few earlier = tested 3 (fresh t earlier) Job 1 (omega arith) (omega arith)
-    (λ z j e. let k = few z in let b = within-true 1 t j (and-true (within 1 t j) (not (standsIn j earlier)) e .0) in (omega arith, omega arith))
-
 -- T of them, each fresh after the earlier ones
 abbrev orderFormat : {Given : Type 0} (t : ℕ) → (Given → t ≤ 60) → Format (List ℕ) Given 60 62 (Job ∷ [])
-orderFormat t few =
-    let F = retold (inTurns (freshFormat t few) followedBy t 60 few []) (order t) encodeAll (λ s at. refl) (run-flat (freshFormat t few) followedBy encode (λ earlier j. refl) []) in
-    let fresh-is : (js : List ℕ) → F .judge js ≡ check (allFresh t js) Job = in-turn-tested (λ earlier j. check (fresh t earlier j) Job) (fresh t) Job followedBy (λ earlier j. refl) [] in
-    let ok-is : (z : _) (js : List ℕ) → F .Ok js ↔ ((length js ≡ t) × (allFresh t js ≡ true)) = λ z js. (
-      λ k. (k .0, judged-accepts (allFresh t js) Job .0 (sym (fresh-is js) ∙ F .accepts z js (k .0, each-all followedBy [] (λ j. Unit) js .1 (all-any js)) .1 k)),
-      λ k. F .accepts z js (k .0, each-all followedBy [] (λ j. Unit) js .1 (all-any js)) .0 (fresh-is js ∙ judged-accepts (allFresh t js) Job .1 (k .1)),
-    ) in
-    rejudged F (record {
-      Ok = λ js. (length js ≡ t) × (allFresh t js ≡ true);
-      Sized = λ js. length js ≡ t;
-      judge = λ js. check (allFresh t js) Job;
-      ok-is = ok-is;
-      short = λ z js k. F .short z js (ok-is z js .1 k);
-      accepts = λ z js n. (λ e. (n, judged-accepts (allFresh t js) Job .0 e), λ k. judged-accepts (allFresh t js) Job .1 (k .1));
-      sized-is = λ js n. (n, each-all followedBy [] (λ j. Unit) js .1 (all-any js));
-      judge-is = λ js k. sym (fresh-is js);
-    })
+orderFormat t few = ordered (fresh t) Job 1 (omega arith)
+    (λ z earlier j e. let k = few z in let b = within-true 1 t j (and-true (within 1 t j) (not (standsIn j earlier)) e .0) in (omega arith, omega arith)) t 60 few
 
 -- ---- the whole message
 
