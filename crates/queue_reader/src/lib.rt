@@ -134,9 +134,11 @@ fn read_window(bytes: &[u8], at: usize) -> WindowRead
                 if !queue::is_window(first, last) {
                     return WindowRead::Refused(Reason::Places);
                 }
+                let from = first as u8;
+                let to = last as u8;
                 return WindowRead::Window {
-                    first: first as u8,
-                    last: last as u8,
+                    first: from,
+                    last: to,
                     next: b,
                 };
             }

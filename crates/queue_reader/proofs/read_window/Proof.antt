@@ -65,11 +65,11 @@ returns-3 c =
     let b = at-last (c .before) in
     rw (first-found (at-first b), last-found b, sym (c .before .is-window .ensures) ∙ not-true _ (c .if1 .taken))
 
-cast-t14 : tie.Need-cast-t14
-cast-t14 c = let b = at-last (c .before) in omega (arith, good-window (first (at-first b)) (last b) (good c))
+cast-from : tie.Need-cast-from
+cast-from c = let b = at-last (c .before) in omega (arith, good-window (first (at-first b)) (last b) (good c))
 
-cast-t15 : tie.Need-cast-t15
-cast-t15 c = let b = at-last (c .before) in omega (arith, good-window (first (at-first b)) (last b) (good c))
+cast-to : tie.Need-cast-to
+cast-to c = let b = at-last (c .before) in omega (arith, good-window (first (at-first b)) (last b) (good c))
 
 returns-4 : tie.Need-returns-4
 returns-4 c =
@@ -90,6 +90,6 @@ read-window-spec =
     (λ c. search needs)
     (λ c κs. search needs)
     returns-3
-    cast-t14
-    cast-t15
+    cast-from
+    cast-to
     returns-4)
