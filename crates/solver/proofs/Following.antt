@@ -3,7 +3,7 @@
 use Prim.Native.Nat.{ℕ, zero, suc, _+_, _-_, _≤_, _<_}
 use mathlib.Core.List.{List}
 use mathlib.Core.Option.{none}
-use mathlib.Core.Path.{_≡_, refl, sym, ap, _∙_}
+use mathlib.Core.Path.{_≡_, sym, ap, _∙_}
 use native.Mathlib.Numerals.{add-one}
 use native.Mathlib.Omega.{arith}
 use lib.ListN.{getD, set, replicate}
@@ -16,7 +16,7 @@ use Rattle.sequencing.specs.Problem.{Problem}
 use Rattle.sequencing.specs.States.{complete, K, allLeft, jobsOf}
 use Rattle.sequencing.specs.Least.{argLeast}
 use Rattle.sequencing.specs.Recursion.{value, choice, walk}
-use Rattle.sequencing.specs.Entries.{stride, digits}
+use Rattle.sequencing.specs.Entries.{stride}
 use Rattle.sequencing.proofs.Counting.{one-self}
 use Rattle.sequencing.proofs.Vectors.{complete-sum, complete-weigh, at-complete}
 use Rattle.problem.specs.OfQueue.{problem}
@@ -27,7 +27,7 @@ use Rattle.layout.specs.Prepared.{Prepared}
 use Rattle.layout.proofs.Prepared.{counts-at, stride-at, jobs-at, job-in}
 use Rattle.next_states.specs.declared.Least.{Least}
 use Rattle.solver.specs.Following.{byHandInUpto}
-use Rattle.solver.proofs.Walking.{Chosen, Takes, takes-next, found-after, walkBy, walk-by, by-hand-more, by-hand-none}
+use Rattle.solver.proofs.Walking.{kAt, Chosen, Takes, takes-next, found-after, walkBy, walk-by, by-hand-more, by-hand-none}
 
 at-minus : (xs : List ℕ) (x : ℕ) → 1 ≤ x → at xs x ≡ getD xs (x - 1) 0
 at-minus xs zero h = absurd (omega arith)
@@ -40,17 +40,17 @@ jobsBy P upto n x k = byHandInUpto P upto k (walkBy P n x k)
 -- what stands in the order, with the jobs still to be followed behind it, is the whole share's; the kind to take next is known
 pub record Following (q : Queue) (upto : List ℕ) (index first places : ℕ) (order left : List ℕ) (total kind i place : ℕ) : Type 0 where
   pub left-is : LeftAt (problem q) left i
-  pub weighs : total ≡ weigh (weight q) (digits (allLeft (problem q)) i)
+  pub weighs : total ≡ weigh (weight q) (kAt (problem q) i)
   pub within : (j : ℕ) → 1 ≤ j → j ≤ q .kinds → at left j ≤ at upto j
-  pub gone : sum (digits (allLeft (problem q)) i) + place ≡ places
-  pub takes : 0 < sum (digits (allLeft (problem q)) i) → Takes (problem q) (digits (allLeft (problem q)) i) kind
-  pub rest : sets order place (jobsBy (problem q) upto (sum (digits (allLeft (problem q)) i)) kind (digits (allLeft (problem q)) i))
-      ≡ filled 60 (jobsBy (problem q) upto places first (digits (allLeft (problem q)) index))
+  pub gone : sum (kAt (problem q) i) + place ≡ places
+  pub takes : 0 < sum (kAt (problem q) i) → Takes (problem q) (kAt (problem q) i) kind
+  pub rest : sets order place (jobsBy (problem q) upto (sum (kAt (problem q) i)) kind (kAt (problem q) i))
+      ≡ filled 60 (jobsBy (problem q) upto places first (kAt (problem q) index))
 
 module _ {q : Queue} {upto : List ℕ} {index first places : ℕ} where
-  pub follow-none : {left : List ℕ} {total : ℕ} → LeftAt (problem q) left index → total ≡ weigh (weight q) (digits (allLeft (problem q)) index)
-      → ((j : ℕ) → 1 ≤ j → j ≤ q .kinds → at left j ≤ at upto j) → places ≡ sum (digits (allLeft (problem q)) index)
-      → (0 < places → (1 ≤ first) × ((first ≤ q .kinds) × ((0 < at left first) × (value (problem q) first (complete (digits (allLeft (problem q)) index) first) ≡ none → ⊥))))
+  pub follow-none : {left : List ℕ} {total : ℕ} → LeftAt (problem q) left index → total ≡ weigh (weight q) (kAt (problem q) index)
+      → ((j : ℕ) → 1 ≤ j → j ≤ q .kinds → at left j ≤ at upto j) → places ≡ sum (kAt (problem q) index)
+      → (0 < places → (1 ≤ first) × ((first ≤ q .kinds) × ((0 < at left first) × (value (problem q) first (complete (kAt (problem q) index) first) ≡ none → ⊥))))
       → Following q upto index first places (replicate 60 0) left total first index 0
   follow-none w weighs within all takes = record {
     left-is = w;
@@ -63,11 +63,11 @@ module _ {q : Queue} {upto : List ℕ} {index first places : ℕ} where
 
   module _ {order left : List ℕ} {total kind i place : ℕ} (f : Following q upto index first places order left total kind i place) where
     -- the order followed, whatever row the first kind was looked up from
-    pub follow-done : places ≤ place → (row : ℕ) → (0 < places → first ≡ argLeast (choice (problem q) row (digits (allLeft (problem q)) index)) (q .kinds))
-        → order ≡ filled 60 (byHandInUpto (problem q) upto (digits (allLeft (problem q)) index) (walk (problem q) places row (digits (allLeft (problem q)) index)))
+    pub follow-done : places ≤ place → (row : ℕ) → (0 < places → first ≡ argLeast (choice (problem q) row (kAt (problem q) index)) (q .kinds))
+        → order ≡ filled 60 (byHandInUpto (problem q) upto (kAt (problem q) index) (walk (problem q) places row (kAt (problem q) index)))
     follow-done h row e =
-        rw (walk-by (problem q) places row (digits (allLeft (problem q)) index) first e)
-        (rw (by-hand-none (problem q) upto (sum (digits (allLeft (problem q)) i)) kind (digits (allLeft (problem q)) i) (omega (arith, f .gone))) at (f .rest))
+        rw (walk-by (problem q) places row (kAt (problem q) index) first e)
+        (rw (by-hand-none (problem q) upto (sum (kAt (problem q) i)) kind (kAt (problem q) i) (omega (arith, f .gone))) at (f .rest))
 
 -- a turn of the loop
 pub record Turn (q : Queue) (l : Layout) (upto : List ℕ) (index first places : ℕ) (order left : List ℕ) (total kind i place : ℕ) : Type 0 where
@@ -79,7 +79,7 @@ pub record Turn (q : Queue) (l : Layout) (upto : List ℕ) (index first places :
 
 module _ {q : Queue} {l : Layout} {upto : List ℕ} {index first places : ℕ} {order left : List ℕ} {total kind i place : ℕ} (t : Turn q l upto index first places order left total kind i place) where
   abbrev k : List ℕ
-  k = digits (allLeft (problem q)) i
+  k = kAt (problem q) i
 
   pub takes-now : Takes (problem q) k kind
   takes-now = t .so-far .takes (omega (arith, t .so-far .gone, t .more))
@@ -128,13 +128,13 @@ module _ {q : Queue} {l : Layout} {upto : List ℕ} {index first places : ℕ} {
 
   -- with the job taken
   module _ {left′ : List ℕ} (one-fewer : left′ ≡ set left (kind - 1) (getD left (kind - 1) 0 - 1)) where
-    then-is : digits (allLeft (problem q)) (i - getD (l .strides) (kind - 1) 0) ≡ complete k kind
+    then-is : kAt (problem q) (i - getD (l .strides) (kind - 1) 0) ≡ complete k kind
     then-is = rw stride-is (complete-digits (t .so-far .left-is) kind low high some-left)
 
     pub left-then : LeftAt (problem q) left′ (i - getD (l .strides) (kind - 1) 0)
     left-then = rw (one-fewer, stride-is) (left-complete (t .so-far .left-is) kind low high some-left)
 
-    pub weighs-then : total - getD (q .weights) (kind - 1) 0 ≡ weigh (weight q) (digits (allLeft (problem q)) (i - getD (l .strides) (kind - 1) 0))
+    pub weighs-then : total - getD (q .weights) (kind - 1) 0 ≡ weigh (weight q) (kAt (problem q) (i - getD (l .strides) (kind - 1) 0))
     weighs-then = rw then-is (omega (arith, lighter))
 
     within-then : (j : ℕ) → 1 ≤ j → j ≤ q .kinds → at left′ j ≤ at upto j
@@ -149,7 +149,7 @@ module _ {q : Queue} {l : Layout} {upto : List ℕ} {index first places : ℕ} {
 
     -- and the next kind found
     module _ {job : ℕ} {r : Least} (job-is : job ≡ getD (l .jobs) (getD (l .begins) (kind - 1) 0 + (getD upto (kind - 1) 0 - getD left (kind - 1) 0)) 0)
-        (chosen : Chosen (problem q) kind (digits (allLeft (problem q)) (i - getD (l .strides) (kind - 1) 0)) r) where
+        (chosen : Chosen (problem q) kind (kAt (problem q) (i - getD (l .strides) (kind - 1) 0)) r) where
       next-kind : 0 < sum (complete k kind) → r .kind ≡ argLeast (choice (problem q) kind (complete k kind)) (q .kinds)
       next-kind s = let (c, e) = found-after (problem q) k kind takes-now s in (rw then-is at chosen) .kind-is c e
 

@@ -11,9 +11,8 @@ use lib.ListN.{length, getD, take}
 use Rattle.queue.specs.declared.Queue.{Queue}
 use Rattle.queue.specs.Record.{weight, Valid}
 use Rattle.sequencing.specs.Lists.{sum, weigh}
-use Rattle.sequencing.specs.States.{allLeft}
 use Rattle.sequencing.specs.Recursion.{W}
-use Rattle.sequencing.specs.Entries.{digits, block, entries, stored}
+use Rattle.sequencing.specs.Entries.{block, entries, stored}
 use Rattle.sequencing.proofs.AllJobs.{left-small}
 use Rattle.sequencing.proofs.Entries.{left-digits}
 use Rattle.sequencing.proofs.Vectors.{at-sum}
@@ -27,11 +26,11 @@ use Rattle.next_states.specs.declared.Least.{Least}
 use Rattle.next_states.specs.NextStates.{nextValues, candidate, Loadable, Ready, IsLeast}
 use Rattle.filling.specs.Filling.{Earlier}
 use Rattle.filling.proofs.Values.{Look, loadable, ready, least-is, taken-is}
-use Rattle.solver.proofs.Walking.{Chosen}
+use Rattle.solver.proofs.Walking.{kAt, Chosen}
 
 -- no more jobs are left than there are
-pub few-left : {q : Queue} → Valid q → (i : ℕ) → sum (digits (allLeft (problem q)) i) ≤ 60
-few-left {q} v i = omega (arith, left-small (problem q) (digits (allLeft (problem q)) i) (left-digits (problem q) i), few-jobs q v)
+pub few-left : {q : Queue} → Valid q → (i : ℕ) → sum (kAt (problem q) i) ≤ 60
+few-left {q} v i = omega (arith, left-small (problem q) (kAt (problem q) i) (left-digits (problem q) i), few-jobs q v)
 
 module _ {q : Queue} {l : Layout} (v : Valid q) (p : Prepared q l) {left : List ℕ} {i : ℕ} (w : LeftAt (problem q) left i) where
   -- what weighing the jobs left may rely on
@@ -40,12 +39,12 @@ module _ {q : Queue} {l : Layout} (v : Valid q) (p : Prepared q l) {left : List 
   may-weigh long = rw (p .kinds-are) (v .kinds .1, (w .long, (long, (few, light))))
     where
       few : (j : ℕ) → j < q .kinds → getD left j 0 ≤ 60
-      few j h = omega (arith, left-at w (suc j) (omega arith) h, at-sum (digits (allLeft (problem q)) i) (suc j), few-left v i)
+      few j h = omega (arith, left-at w (suc j) (omega arith) h, at-sum (kAt (problem q) i) (suc j), few-left v i)
 
       light : (j : ℕ) → j < q .kinds → getD (q .weights) j 0 ≤ 1000
       light j h = let e : suc j - 1 ≡ j = omega arith in rw e at (v .weights (suc j) (omega arith) h)
 
-  pub weighed : {total : ℕ} → total ≡ weigh (weight q) (take (l .size .kinds) left) → total ≡ weigh (weight q) (digits (allLeft (problem q)) i)
+  pub weighed : {total : ℕ} → total ≡ weigh (weight q) (take (l .size .kinds) left) → total ≡ weigh (weight q) (kAt (problem q) i)
   weighed e = e ∙ rw (p .kinds-are, w .here)
 
   -- with every entry filled
@@ -60,8 +59,8 @@ module _ {q : Queue} {l : Layout} (v : Valid q) (p : Prepared q l) {left : List 
   }
 
 module _ {q : Queue} {l : Layout} {table left : List ℕ} {i : ℕ} (look : Look q l table left i) {total w : ℕ}
-    (weighs : total ≡ weigh (weight q) (digits (allLeft (problem q)) i)) (step : w ≡ cond (eqb (q .goal) 1) 1 total) where
-  step-is : w ≡ W (problem q) (digits (allLeft (problem q)) i)
+    (weighs : total ≡ weigh (weight q) (kAt (problem q) i)) (step : w ≡ cond (eqb (q .goal) 1) 1 total) where
+  step-is : w ≡ W (problem q) (kAt (problem q) i)
   unfolding W
   step-is = step ∙ rw weighs
 
@@ -70,7 +69,8 @@ module _ {q : Queue} {l : Layout} {table left : List ℕ} {i : ℕ} (look : Look
       → Loadable table left (l .strides) (l .size .block) i × (Ready (nextValues table left (l .strides) (l .size .block) i) (q .gaps) row w × (q .goal ≡ 1 → w ≡ 1))
   may-look row u = (loadable look, (rw step-is (ready look row u), λ e. step ∙ rw (eq-eqb _ _ e)))
 
-  pub looked : (row : ℕ) {r : Least} → IsLeast (candidate (nextValues table left (l .strides) (l .size .block) i) (q .gaps) row w) r → Chosen (problem q) row (digits (allLeft (problem q)) i) r
+  -- what is found is the recursion's choice
+  pub looked : (row : ℕ) {r : Least} → IsLeast (candidate (nextValues table left (l .strides) (l .size .block) i) (q .gaps) row w) r → Chosen (problem q) row (kAt (problem q) i) r
   looked row found =
       let f = rw step-is at found in
       record {

@@ -27,7 +27,7 @@ use Rattle.layout.specs.Prepared.{Prepared}
 use Rattle.layout.proofs.Prepared.{counts-at, counts-take, counts-long}
 use Rattle.next_states.specs.declared.Least.{Least}
 use Rattle.solver.specs.Following.{byHandInUpto}
-use Rattle.solver.proofs.Walking.{some-cost, Chosen, takes-next, upto-all}
+use Rattle.solver.proofs.Walking.{some-cost, kAt, Chosen, takes-next, upto-all}
 
 index-last : (cs : List ℕ) → suc (index cs cs) ≡ size cs
 unfolding index size
@@ -41,7 +41,7 @@ module _ {q : Queue} {l : Layout} (v : Valid q) (p : Prepared q l) where
   pub some-block : 1 ≤ l .size .block
   some-block = omega (arith, p .block-is, size-pos (allLeft (problem q)))
 
-  pub last-is : digits (allLeft (problem q)) (l .size .block - 1) ≡ allLeft (problem q)
+  pub last-is : kAt (problem q) (l .size .block - 1) ≡ allLeft (problem q)
   last-is =
       let a = allLeft (problem q) in
       let e : l .size .block - 1 ≡ index a a = omega (arith, p .block-is, index-last a) in
@@ -59,11 +59,11 @@ module _ {q : Queue} {l : Layout} (v : Valid q) (p : Prepared q l) where
     within = omega (arith, p .block-is, size-pos (allLeft (problem q)));
   }
 
-  pub start-places : q .jobs ≡ sum (digits (allLeft (problem q)) (l .size .block - 1))
+  pub start-places : q .jobs ≡ sum (kAt (problem q) (l .size .block - 1))
   start-places = rw last-is (sym (all-jobs v))
 
   -- what is found there is the plan's cost and its first kind
-  pub first-choice : 0 < q .jobs → {r : Least} → Chosen (problem q) (q .start) (digits (allLeft (problem q)) (l .size .block - 1)) r
+  pub first-choice : 0 < q .jobs → {r : Least} → Chosen (problem q) (q .start) (kAt (problem q) (l .size .block - 1)) r
       → (r .cost ≡ stored (planCost (problem q)))
       × ((0 < q .jobs → (planCost (problem q) ≡ none → ⊥) → r .kind ≡ argLeast (choice (problem q) (q .start) (allLeft (problem q))) (q .kinds))
       × ((planCost (problem q) ≡ none → r .kind ≡ 0) × (q .jobs ≡ 0 → r .kind ≡ 0)))
@@ -75,7 +75,7 @@ module _ {q : Queue} {l : Layout} (v : Valid q) (p : Prepared q l) where
   module _ (some-plan : planCost (problem q) ≡ none → ⊥) where
     -- the first kind can be taken
     pub start-takes : (x : ℕ) → 0 < q .jobs → x ≡ argLeast (choice (problem q) (q .start) (allLeft (problem q))) (q .kinds)
-        → (1 ≤ x) × ((x ≤ q .kinds) × ((0 < at (l .counts) x) × (value (problem q) x (complete (digits (allLeft (problem q)) (l .size .block - 1)) x) ≡ none → ⊥)))
+        → (1 ≤ x) × ((x ≤ q .kinds) × ((0 < at (l .counts) x) × (value (problem q) x (complete (kAt (problem q) (l .size .block - 1)) x) ≡ none → ⊥)))
     start-takes x h e =
         let (c, f) = some-cost (planCost (problem q)) some-plan in
         let t = rw (← e) at (takes-next (problem q) (q .start) (allLeft (problem q)) c (sym (plan-some-jobs q v h) ∙ f)) in

@@ -3,14 +3,14 @@
 use Prim.Native.Nat.{ℕ, zero, suc, _-_, _≤_, _<_}
 use mathlib.Core.List.{List, [], _∷_}
 use mathlib.Core.Option.{Option, none, some}
-use mathlib.Core.Path.{_≡_, refl, sym, ap, _∙_}
+use mathlib.Core.Path.{_≡_, refl, sym, _∙_}
 use native.Mathlib.Omega.{arith}
 use Rattle.sequencing.specs.Lists.{at, sum}
 use Rattle.sequencing.specs.Problem.{Problem}
-use Rattle.sequencing.specs.States.{complete, K, IsLeft, jobsOf, byHandIn}
+use Rattle.sequencing.specs.States.{complete, K, allLeft, IsLeft, jobsOf, byHandIn}
 use Rattle.sequencing.specs.Least.{least, argLeast}
-use Rattle.sequencing.specs.Recursion.{costToGo, value, choice, walk}
-use Rattle.sequencing.specs.Entries.{stored}
+use Rattle.sequencing.specs.Recursion.{value, choice, walk}
+use Rattle.sequencing.specs.Entries.{digits, stored}
 use Rattle.sequencing.proofs.Equations.{cost-some-left}
 use Rattle.sequencing.proofs.Fills.{Fills}
 use Rattle.sequencing.proofs.JobsLeft.{complete-left}
@@ -25,6 +25,10 @@ some-cost none h = absurd (h refl)
 some-cost (some c) h = (c, refl)
 
 module _ (P : Problem) where
+  -- the jobs left at an index
+  abbrev pub kAt : ℕ → List ℕ
+  kAt i = digits (allLeft P) i
+
   -- the recursion's choice from (L; k) on as it is answered: its cost, and its kind, 0 where there is none
   pub record Chosen (L : ℕ) (k : List ℕ) (r : Least) : Type 0 where
     pub cost-is : r .cost ≡ stored (least (choice P L k) (P .N))

@@ -5,12 +5,12 @@ use Prim.Native.Nat.{_-_}
 use lib.ListN.{length}
 use Rattle.queue.specs.Record.{weight}
 use Rattle.sequencing.specs.Lists.{weigh}
-use Rattle.sequencing.specs.States.{allLeft}
-use Rattle.sequencing.specs.Entries.{digits, stored}
+use Rattle.sequencing.specs.Entries.{stored}
 use Rattle.problem.specs.OfQueue.{problem}
 use Rattle.problem.proofs.Queues.{plan-no-jobs}
 use Rattle.layout.proofs.Prepared.{strides-long}
 use Rattle.filling.proofs.Values.{Look}
+use Rattle.solver.proofs.Walking.{kAt}
 use Rattle.solver.proofs.Looking.{may-weigh, weighed, whole, may-look, looked}
 use Rattle.solver.proofs.Start.{some-block, start-left, first-choice}
 use borrow.Author.Needs.{needs}
@@ -37,7 +37,7 @@ sized c = (search needs, search needs)
 look : (c : tie.Start) → Look (c .args .queue) (c .args .layout) (c .args .table .now) (c .args .layout .counts) (c .args .layout .size .block - 1)
 look c = let p = c .pre in whole (p .0) (p .1 .0) (start-left (p .0) (p .1 .0)) (sized c .1) (p .1 .1 .0) (p .1 .1 .1)
 
-weighs : (c : tie.After-weight-left) → let e = entry (c .before) .args in c .weight-left .result ≡ weigh (weight (e .queue)) (digits (allLeft (problem (e .queue))) (e .layout .size .block - 1))
+weighs : (c : tie.After-weight-left) → let e = entry (c .before) .args in c .weight-left .result ≡ weigh (weight (e .queue)) (kAt (problem (e .queue)) (e .layout .size .block - 1))
 weighs c = let p = entry (c .before) .pre in weighed (p .0) (p .1 .0) (start-left (p .0) (p .1 .0)) (c .weight-left .ensures)
 
 returns : tie.Need-returns
@@ -61,7 +61,7 @@ sub-best-next c = let p = entry (weighed-up (c .before) .before) .pre in some-bl
 best-next-requires : tie.Need-best-next-requires
 best-next-requires c κs =
     let e = entry (looking c .before) in
-    may-look (look e) (weighs (looking c)) (c .step-weight .ensures) _ (e .pre .0 .start)
+    may-look (look e) (weighs (looking c)) (c .step-weight .ensures) _ (omega (arith, e .pre .0 .start))
 
 returns-2 : tie.Need-returns-2
 returns-2 c =

@@ -134,7 +134,7 @@ slice-aggregate-best-next-3 c = sym (sized (entry (turn (taken (c .before .befor
 best-next-requires : tie.Need-best-next-requires Inv-loop μ-loop
 best-next-requires c κs =
     let t = turn-of (taken (looking c)) in
-    may-look (look (looking c)) (weighs-then t (looking c .before .take-job .ensures .1)) (c .step-weight .ensures) _ (takes-now t .high)
+    may-look (look (looking c)) (weighs-then t (looking c .before .take-job .ensures .1)) (c .step-weight .ensures) _ (omega (arith, takes-now t .high))
 
 add-place : tie.Need-add-place Inv-loop μ-loop
 add-place c = record { fits = omega (arith, place-in (taken (looking (c .before)))) }
