@@ -47,18 +47,26 @@ pub record Following (q : Queue) (upto : List ℕ) (index first places : ℕ) (o
   pub rest : sets order place (jobsBy (problem q) upto (sum (kAt (problem q) i)) kind (kAt (problem q) i))
       ≡ filled 60 (jobsBy (problem q) upto places first (kAt (problem q) index))
 
+-- a share of the queue: what is left where it begins, up to which job of each kind, and the first kind, which the caller has looked up
+pub record Share (q : Queue) (l : Layout) (from upto : List ℕ) (index first places : ℕ) : Type 0 where
+  pub valid : Valid q
+  pub prepared : Prepared q l
+  pub left-is : LeftAt (problem q) from index
+  pub within : (j : ℕ) → 1 ≤ j → j ≤ q .kinds → (at from j ≤ at upto j) × (at upto j ≤ at (l .counts) j)
+  pub all : places ≡ sum (kAt (problem q) index)
+  pub takes : 0 < places → (1 ≤ first) × ((first ≤ q .kinds) × ((0 < at from first) × (value (problem q) first (complete (kAt (problem q) index) first) ≡ none → ⊥)))
+
 module _ {q : Queue} {upto : List ℕ} {index first places : ℕ} where
-  pub follow-none : {left : List ℕ} {total : ℕ} → LeftAt (problem q) left index → total ≡ weigh (weight q) (kAt (problem q) index)
-      → ((j : ℕ) → 1 ≤ j → j ≤ q .kinds → at left j ≤ at upto j) → places ≡ sum (kAt (problem q) index)
-      → (0 < places → (1 ≤ first) × ((first ≤ q .kinds) × ((0 < at left first) × (value (problem q) first (complete (kAt (problem q) index) first) ≡ none → ⊥))))
-      → Following q upto index first places (replicate 60 0) left total first index 0
-  follow-none w weighs within all takes = record {
-    left-is = w;
+  pub follow-none : {l : Layout} {from : List ℕ} {total : ℕ} → Share q l from upto index first places → total ≡ weigh (weight q) (kAt (problem q) index)
+      → Following q upto index first places (replicate 60 0) from total first index 0
+  follow-none s weighs = record {
+    left-is = s .left-is;
     weighs = weighs;
-    within = within;
-    gone = omega (arith, all);
-    takes = λ h. let t = takes (omega (arith, all)) in record { low = t .0; high = t .1 .0; some-left = omega (arith, left-at w first (t .0) (t .1 .0), t .1 .1 .0); found = t .1 .1 .1 };
-    rest = rw (← all);
+    within = λ j a b. s .within j a b .0;
+    gone = omega (arith, s .all);
+    takes = λ h. let t = s .takes (omega (arith, s .all)) in
+        record { low = t .0; high = t .1 .0; some-left = omega (arith, left-at (s .left-is) first (t .0) (t .1 .0), t .1 .1 .0); found = t .1 .1 .1 };
+    rest = rw (← (s .all));
   }
 
   module _ {order left : List ℕ} {total kind i place : ℕ} (f : Following q upto index first places order left total kind i place) where
@@ -70,14 +78,12 @@ module _ {q : Queue} {upto : List ℕ} {index first places : ℕ} where
         (rw (by-hand-none (problem q) upto (sum (kAt (problem q) i)) kind (kAt (problem q) i) (omega (arith, f .gone))) at (f .rest))
 
 -- a turn of the loop
-pub record Turn (q : Queue) (l : Layout) (upto : List ℕ) (index first places : ℕ) (order left : List ℕ) (total kind i place : ℕ) : Type 0 where
-  pub valid : Valid q
-  pub prepared : Prepared q l
-  pub few : (j : ℕ) → 1 ≤ j → j ≤ q .kinds → at upto j ≤ at (l .counts) j
+pub record Turn (q : Queue) (l : Layout) (from upto : List ℕ) (index first places : ℕ) (order left : List ℕ) (total kind i place : ℕ) : Type 0 where
+  pub share : Share q l from upto index first places
   pub so-far : Following q upto index first places order left total kind i place
   pub more : place < places
 
-module _ {q : Queue} {l : Layout} {upto : List ℕ} {index first places : ℕ} {order left : List ℕ} {total kind i place : ℕ} (t : Turn q l upto index first places order left total kind i place) where
+module _ {q : Queue} {l : Layout} {from upto : List ℕ} {index first places : ℕ} {order left : List ℕ} {total kind i place : ℕ} (t : Turn q l from upto index first places order left total kind i place) where
   abbrev k : List ℕ
   k = kAt (problem q) i
 
@@ -108,14 +114,14 @@ module _ {q : Queue} {l : Layout} {upto : List ℕ} {index first places : ℕ} {
 
   taken-few : taken < K (problem q) kind
   unfolding taken
-  taken-few = omega (arith, job-left, left-within, at-minus upto kind low, t .few kind low high, counts-at (t .valid) (t .prepared) kind low)
+  taken-few = omega (arith, job-left, left-within, at-minus upto kind low, t .share .within kind low high, counts-at (t .share .valid) (t .share .prepared) kind low)
 
   pub job-there : getD (l .begins) (kind - 1) 0 + (getD upto (kind - 1) 0 - getD left (kind - 1) 0) < 60
   unfolding taken
-  job-there = rw (← (at-minus (l .begins) kind low)) (job-in (t .valid) (t .prepared) kind taken low high taken-few)
+  job-there = rw (← (at-minus (l .begins) kind low)) (job-in (t .share .valid) (t .share .prepared) kind taken low high taken-few)
 
   stride-is : getD (l .strides) (kind - 1) 0 ≡ stride (allLeft (problem q)) kind
-  stride-is = sym (at-minus (l .strides) kind low) ∙ stride-at (t .valid) (t .prepared) kind low high
+  stride-is = sym (at-minus (l .strides) kind low) ∙ stride-at (t .share .valid) (t .share .prepared) kind low high
 
   pub stride-within : getD (l .strides) (kind - 1) 0 ≤ i
   stride-within = omega (arith, stride-is, stride-earlier (t .so-far .left-is) kind low high some-left kind (omega arith))
@@ -161,7 +167,7 @@ module _ {q : Queue} {l : Layout} {upto : List ℕ} {index first places : ℕ} {
       job-taken =
           let fewer : suc (at (complete k kind) kind) ≡ at k kind = omega (arith, at-complete k kind kind (takes-now .some-left), one-self kind) in
           let n : suc taken ≡ at upto kind - at (complete k kind) kind = omega (arith, here, fewer, left-within, at-minus upto kind low) in
-          job-is ∙ rw (← (at-minus (l .begins) kind low)) (jobs-at (t .valid) (t .prepared) kind taken low high taken-few ∙ ap (at (jobsOf (problem q) kind)) n)
+          job-is ∙ rw (← (at-minus (l .begins) kind low)) (jobs-at (t .share .valid) (t .share .prepared) kind taken low high taken-few ∙ ap (at (jobsOf (problem q) kind)) n)
 
       pub follow-more : Following q upto index first places (set order place job) left′ (total - getD (q .weights) (kind - 1) 0) (r .kind) (i - getD (l .strides) (kind - 1) 0) (place + 1)
       follow-more = record {

@@ -7,7 +7,7 @@ use lib.ListN.{length, getD}
 use Rattle.layout.proofs.Prepared.{begins-long, jobs-long, strides-long}
 use Rattle.filling.proofs.Values.{Look}
 use Rattle.solver.proofs.Looking.{few-left, may-weigh, weighed, whole, may-look, looked}
-use Rattle.solver.proofs.Following.{Following, Turn, follow-none, follow-done, takes-now, job-left, left-within, job-there, stride-within, weight-within, left-then, weighs-then, follow-more}
+use Rattle.solver.proofs.Following.{Following, Share, Turn, follow-none, follow-done, takes-now, job-left, left-within, job-there, stride-within, weight-within, left-then, weighs-then, follow-more}
 use borrow.Author.Needs.{needs}
 use Rattle.solver.proofs.follow.Statement.{statement}
 use Rattle.solver.proofs.follow.Tie as tie
@@ -42,48 +42,48 @@ looking c = c .before .before .before .before
 sized : (c : tie.Start Inv-loop μ-loop) → (length (c .args .queue .weights) ≡ 5) × ((length (c .args .queue .gaps) ≡ 30) × (length (c .args .t5) ≡ 5))
 sized c = (search needs, (search needs, search needs))
 
+-- the `requires` by name
+share : (c : tie.Start Inv-loop μ-loop)
+    → let a = c .args in
+    Share (a .queue) (a .layout) (a .from) (a .t5) (a .index) (a .first) (a .places)
+share c =
+    let p = c .pre .1 .1 .1 .1 in
+    record { valid = c .pre .0; prepared = c .pre .1 .0; left-is = p .0; within = p .1 .0; all = p .1 .1 .0; takes = p .1 .1 .1 }
+
 turn-of : (c : tie.In-loop Inv-loop μ-loop)
-    → let e = entry (turn c) .args in let t = turn c .loop in
-    Turn (e .queue) (e .layout) (e .t5) (e .index) (e .first) (e .places) (t .order) (t .left) (t .weight) (t .kind) (t .at) (t .place)
-turn-of c =
-    let p = entry (turn c) .pre in
-    record {
-      valid = p .0;
-      prepared = p .1 .0;
-      few = λ j a b. p .1 .1 .1 .1 .1 .0 j a b .1;
-      so-far = turn c .loop .inv;
-      more = c .loop-test .taken;
-    }
+    → let a = entry (turn c) .args in
+    let t = turn c .loop in
+    Turn (a .queue) (a .layout) (a .from) (a .t5) (a .index) (a .first) (a .places) (t .order) (t .left) (t .weight) (t .kind) (t .at) (t .place)
+turn-of c = record { share = share (entry (turn c)); so-far = turn c .loop .inv; more = c .loop-test .taken }
 
 kind-in : (c : tie.In-loop Inv-loop μ-loop) → (1 ≤ turn c .loop .kind) × (turn c .loop .kind ≤ 5)
-kind-in c = let t = takes-now (turn-of c) in (t .low, omega (arith, t .high, entry (turn c) .pre .0 .kinds))
+kind-in c = let t = takes-now (turn-of c) in (t .low, omega (arith, t .high, share (entry (turn c)) .valid .kinds))
 
 place-in : (c : tie.In-loop Inv-loop μ-loop) → turn c .loop .place < 60
-place-in c = let e = entry (turn c) in omega (arith, c .loop-test .taken, few-left (e .pre .0) (e .args .index), e .pre .1 .1 .1 .1 .1 .1 .0)
+place-in c = let s = share (entry (turn c)) in omega (arith, c .loop-test .taken, few-left (s .valid) (entry (turn c) .args .index), s .all)
 
 look : (c : tie.After-left3 Inv-loop μ-loop) → let t = turn (taken c) in
     Look (entry t .args .queue) (entry t .args .layout) (entry t .args .table .now) (c .before .take-job .last .0) (t .loop .at - getD (entry t .args .layout .strides) (t .loop .kind - 1) 0)
 look c =
     let e = entry (turn (taken c)) in
-    whole (e .pre .0) (e .pre .1 .0) (left-then (turn-of (taken c)) (c .before .take-job .ensures .1)) (sized e .1 .0) (e .pre .1 .1 .0) (e .pre .1 .1 .1 .0)
+    whole (share e .valid) (share e .prepared) (left-then (turn-of (taken c)) (c .before .take-job .ensures .1)) (sized e .1 .0) (e .pre .1 .1 .0) (e .pre .1 .1 .1 .0)
 
 slice-aggregate-weight-left-2 : tie.Need-slice-aggregate-weight-left-2 Inv-loop μ-loop
 slice-aggregate-weight-left-2 c = sym (sized (copied (c .before .before .before)) .0)
 
 weight-left-requires : tie.Need-weight-left-requires Inv-loop μ-loop
-weight-left-requires c κs = let e = copied (c .before .before .before) in may-weigh (e .pre .0) (e .pre .1 .0) (e .pre .1 .1 .1 .1 .0) (sized e .0)
+weight-left-requires c κs = let e = copied (c .before .before .before) in may-weigh (share e .valid) (share e .prepared) (share e .left-is) (sized e .0)
 
 loop-holds : tie.Need-loop-holds Inv-loop μ-loop
 loop-holds c =
-    let p = copied (c .before .before .before .before) .pre in
-    let w = p .1 .1 .1 .1 .0 in
-    follow-none w (weighed (p .0) (p .1 .0) w (c .weight-left .ensures)) (λ j a b. p .1 .1 .1 .1 .1 .0 j a b .0) (p .1 .1 .1 .1 .1 .1 .0) (p .1 .1 .1 .1 .1 .1 .1)
+    let s = share (copied (c .before .before .before .before)) in
+    follow-none s (weighed (s .valid) (s .prepared) (s .left-is) (c .weight-left .ensures))
 
 slice-aggregate-take-job-3 : tie.Need-slice-aggregate-take-job-3 Inv-loop μ-loop
-slice-aggregate-take-job-3 c = let t = turn-of (c .before .before .before) in sym (begins-long (t .valid) (t .prepared))
+slice-aggregate-take-job-3 c = let t = turn-of (c .before .before .before) in sym (begins-long (t .share .valid) (t .share .prepared))
 
 slice-aggregate-take-job-4 : tie.Need-slice-aggregate-take-job-4 Inv-loop μ-loop
-slice-aggregate-take-job-4 c = let t = turn-of (taking c) in sym (jobs-long (t .valid) (t .prepared))
+slice-aggregate-take-job-4 c = let t = turn-of (taking c) in sym (jobs-long (t .share .valid) (t .share .prepared))
 
 sub-take-job : tie.Need-sub-take-job Inv-loop μ-loop
 sub-take-job c = kind-in (taking c) .0
@@ -93,7 +93,7 @@ take-job-requires c κs =
     let e = entry (turn (taking c)) in
     let t = turn-of (taking c) in
     let inside = kind-in (taking c) in
-    (omega (arith, inside), (t .so-far .left-is .long, (sized e .1 .1, (begins-long (t .valid) (t .prepared), (job-left t, (left-within t, omega (arith, job-there t, jobs-long (t .valid) (t .prepared))))))))
+    (omega (arith, inside), (t .so-far .left-is .long, (sized e .1 .1, (begins-long (t .share .valid) (t .share .prepared), (job-left t, (left-within t, omega (arith, job-there t, jobs-long (t .share .valid) (t .share .prepared))))))))
 
 array-write-order : tie.Need-array-write-order Inv-loop μ-loop
 array-write-order c = place-in (taken c)
@@ -120,13 +120,13 @@ array-read-weight : tie.Need-array-read-weight Inv-loop μ-loop
 array-read-weight c = omega (arith, kind-in (taken c))
 
 cast-weight : tie.Need-cast-weight Inv-loop μ-loop
-cast-weight c = let t = turn-of (taken c) in omega (arith, t .valid .weights _ (takes-now t .low) (takes-now t .high))
+cast-weight c = let t = turn-of (taken c) in omega (arith, t .share .valid .weights _ (takes-now t .low) (takes-now t .high))
 
 sub-weight-2 : tie.Need-sub-weight-2 Inv-loop μ-loop
 sub-weight-2 c = weight-within (turn-of (taken c))
 
 slice-aggregate-best-next-2 : tie.Need-slice-aggregate-best-next-2 Inv-loop μ-loop
-slice-aggregate-best-next-2 c = let t = turn-of (taken (c .before .before)) in sym (strides-long (t .valid) (t .prepared))
+slice-aggregate-best-next-2 c = let t = turn-of (taken (c .before .before)) in sym (strides-long (t .share .valid) (t .share .prepared))
 
 slice-aggregate-best-next-3 : tie.Need-slice-aggregate-best-next-3 Inv-loop μ-loop
 slice-aggregate-best-next-3 c = sym (sized (entry (turn (taken (c .before .before .before)))) .1 .0)
