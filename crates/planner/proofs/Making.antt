@@ -44,7 +44,8 @@ module _ {q : Queue} {l : Layout} (v : Valid q) (p : Prepared q l) (some-plan : 
   left = digits (allLeft (problem q)) (l .size .block - 1)
 
   pub order-followed : {order : List ℕ}
-      → ((row : ℕ) → (0 < l .size .jobs → first ≡ argLeast (choice (problem q) row left) (q .kinds)) → order ≡ filled 60 (byHandInUpto (problem q) (l .counts) left (walk (problem q) (l .size .jobs) row left)))
+      → ((row : ℕ) → (0 < l .size .jobs → first ≡ argLeast (choice (problem q) row left) (q .kinds))
+      → order ≡ filled 60 (byHandInUpto (problem q) (l .counts) left (walk (problem q) (l .size .jobs) row left)))
       → order ≡ filled 60 (planOrder (problem q))
   order-followed follows =
       let places : l .size .jobs ≡ sum (allLeft (problem q)) = p .jobs-are ∙ sym (all-jobs v) in
@@ -63,8 +64,14 @@ wrote p buffer v h = (rw (valid-judged p v, le-leb 77 (length buffer) h), rw (va
 abbrev pub made : Queue → (cost states : ℕ) → List ℕ → Plan
 made q cost states order = record { goal = q .goal; cost = cost; «feasible_states» = states; jobs = q .jobs; order = order }
 
--- a queue solved: its table filled, and the best cost as the table would hold it
-module _ {q : Queue} (v : Valid q) {table table′ : List ℕ} (fills : FilledTable (problem q) table table′) {cost : ℕ} (cost-is : cost ≡ stored (planCost (problem q))) where
+-- what solving a queue finds: the table filled, the best cost as the table would hold it, and the count of feasible states
+pub record Solved (q : Queue) (table table′ : List ℕ) (cost states : ℕ) : Type 0 where
+  pub valid : Valid q
+  pub fills : FilledTable (problem q) table table′
+  pub cost-is : cost ≡ stored (planCost (problem q))
+  pub states-are : states ≡ feasibleStates (problem q)
+
+module _ {q : Queue} {table table′ : List ℕ} {cost states : ℕ} (s : Solved q table table′ cost states) where
   abbrev P : Problem
   P = problem q
 
@@ -73,36 +80,37 @@ module _ {q : Queue} (v : Valid q) {table table′ : List ℕ} (fills : FilledTa
     where
       go : (r : Option ℕ) → planCost P ≡ r → planCost P ≡ none
       go none h = h
-      go (some c) h = absurd (omega (arith, cost-fits q v c h .2, cost-is ∙ ap stored h))
+      go (some c) h = absurd (omega (arith, cost-fits q (s .valid) c h .2, s .cost-is ∙ ap stored h))
 
   pub ends-unplannable : {buffer : List ℕ} → cost ≡ 2 ^ 64 - 1 → Ends (solved q (planCost P)) (Refused NoOrder) table buffer table′ buffer
-  ends-unplannable e = rw (none-found e) (refl, (fills, refl))
+  ends-unplannable e = rw (none-found e) (refl, (s .fills, refl))
 
   module _ (other : cost ≡ 2 ^ 64 - 1 → ⊥) where
     -- a cost was found, so some order is permitted
     pub some-order : planCost P ≡ none → ⊥
-    some-order h = other (cost-is ∙ ap stored h)
+    some-order h = other (s .cost-is ∙ ap stored h)
 
     some-found : planCost P ≡ some cost
     some-found = go (planCost P) refl
       where
         go : (r : Option ℕ) → planCost P ≡ r → planCost P ≡ some cost
         go none h = absurd (some-order h)
-        go (some c) h = h ∙ ap some (sym (cost-is ∙ ap stored h))
+        go (some c) h = h ∙ ap some (sym (s .cost-is ∙ ap stored h))
 
-    module _ (buffer : List ℕ) (room : 77 ≤ length buffer) {states : ℕ} (states-are : states ≡ feasibleStates P) {order : List ℕ} (order-is : order ≡ filled 60 (planOrder P)) where
+    module _ (buffer : List ℕ) (room : 77 ≤ length buffer) {order : List ℕ} (order-is : order ≡ filled 60 (planOrder P)) where
       is-best : made q cost states order ≡ bestPlan q cost
       unfolding bestPlan
-      is-best = rw (states-are, order-is)
+      is-best = rw (s .states-are, order-is)
 
-      written : (writePlan (made q cost states order) (length buffer) ≡ Bytes (length (message (bestPlan q cost)))) × (writtenPlan (made q cost states order) buffer ≡ sets buffer 0 (message (bestPlan q cost)))
-      written = rw is-best (wrote (bestPlan q cost) buffer (valid-plan q v cost some-found) room)
+      written : (writePlan (made q cost states order) (length buffer) ≡ Bytes (length (message (bestPlan q cost))))
+          × (writtenPlan (made q cost states order) buffer ≡ sets buffer 0 (message (bestPlan q cost)))
+      written = rw is-best (wrote (bestPlan q cost) buffer (valid-plan q (s .valid) cost some-found) room)
 
-      pub ends-planned : {n : ℕ} {buffer′ : List ℕ} → Bytes n ≡ writePlan (made q cost states order) (length buffer) → buffer′ ≡ writtenPlan (made q cost states order) buffer
-          → Ends (solved q (planCost P)) (Planned n) table buffer table′ buffer′
+      pub ends-planned : {n : ℕ} {buffer′ : List ℕ} → Bytes n ≡ writePlan (made q cost states order) (length buffer)
+          → buffer′ ≡ writtenPlan (made q cost states order) buffer → Ends (solved q (planCost P)) (Planned n) table buffer table′ buffer′
       ends-planned {n} e h =
           let same : n ≡ length (message (bestPlan q cost)) = bytes-eq n _ (e ∙ written .0) in
-          rw some-found (ap Planned same, (fills, h ∙ written .1))
+          rw some-found (ap Planned same, (s .fills, h ∙ written .1))
         where
           bytes-eq : (a b : ℕ) → Bytes a ≡ Bytes b → a ≡ b
           bytes-eq a b x = cc

@@ -1,14 +1,17 @@
 -- `planner::make_plan` meets its contract: the table filled, then 17 where no cost was found, else the order followed and written.
 -- Assumes nothing.
+use Prim.Native.Nat.{_<_}
 use mathlib.Core.Option.{none}
 use mathlib.Core.Path.{_≡_, sym, _∙_}
 use native.Mathlib.Omega.{arith}
 use Rattle.fields.specs.Lists.{filled}
-use Rattle.sequencing.specs.Recursion.{planCost, planOrder}
+use Rattle.sequencing.specs.States.{allLeft}
+use Rattle.sequencing.specs.Least.{argLeast}
+use Rattle.sequencing.specs.Recursion.{choice, planCost, planOrder}
 use Rattle.problem.specs.OfQueue.{problem}
 use Rattle.filling.proofs.Tables.{all-filled}
 use Rattle.solver.proofs.Start.{some-block, start-left, start-places, start-takes}
-use Rattle.planner.proofs.Making.{order-followed, ends-unplannable, some-order, ends-planned, never-refused}
+use Rattle.planner.proofs.Making.{Solved, order-followed, ends-unplannable, some-order, ends-planned, never-refused}
 use borrow.Author.Needs.{needs}
 use Rattle.planner.proofs.make_plan.Statement.{statement}
 use Rattle.planner.proofs.make_plan.Tie as tie
@@ -17,12 +20,23 @@ use Rattle.planner.proofs.make_plan.Tie as tie
 abbrev entry : tie.After-solve → tie.Start
 entry c = c .before .before .before .before
 
+solved : (c : tie.After-solve)
+    → Solved (entry c .args .queue) (entry c .args .table .now) (c .solve .last .1 .1 .0) (c .solve .result .first .cost) (c .solve .result .«feasible_states»)
+solved c =
+    let told = c .solve .ensures in
+    record { valid = entry c .pre .0; fills = told .0; cost-is = told .1 .0; states-are = told .1 .1 .1 .1 }
+
 -- where it is solved, from where a cost was found
 abbrev solved-at : tie.Else1 → tie.After-solve
 solved-at c = c .before .before .before .before .before
 
 some-plan : (c : tie.Else1) → planCost (problem (entry (solved-at c) .args .queue)) ≡ none → ⊥
-some-plan c = let s = solved-at c in some-order (entry s .pre .0) (s .solve .ensures .0) (s .solve .ensures .1 .0) (c .if1 .left)
+some-plan c = some-order (solved (solved-at c)) (c .if1 .left)
+
+-- the first kind is the recursion's
+first-is : (c : tie.Else1) → let q = entry (solved-at c) .args .queue in
+    0 < q .jobs → solved-at c .solve .result .first .kind ≡ argLeast (choice (problem q) (q .start) (allLeft (problem q))) (q .kinds)
+first-is c h = solved-at c .solve .ensures .1 .1 .0 h (some-plan c)
 
 -- where a cost was found, from where the order is followed
 abbrev found-at : tie.After-follow → tie.Else1
@@ -30,35 +44,35 @@ found-at c = c .before .before .before .before .before .before
 
 followed : (c : tie.After-follow) → c .follow .result ≡ filled 60 (planOrder (problem (entry (solved-at (found-at c)) .args .queue)))
 followed c =
-    let s = solved-at (found-at c) in
-    let plan = some-plan (found-at c) in
-    order-followed (entry s .pre .0) (entry s .pre .1 .0) plan (λ h. s .solve .ensures .1 .1 .0 h plan) (c .follow .ensures)
+    let found = found-at c in
+    let start = entry (solved-at found) in
+    order-followed (start .pre .0) (start .pre .1 .0) (some-plan found) (first-is found) (c .follow .ensures)
 
 -- where the order is followed, from where the plan is written
 abbrev followed-at : tie.After-write-plan → tie.After-follow
 followed-at c = c .before .before
 
 returns : tie.Need-returns
-returns c = let s = c .before .before .before .before .before in ends-unplannable (entry s .pre .0) (s .solve .ensures .0) (s .solve .ensures .1 .0) (c .if1 .taken)
+returns c = ends-unplannable (solved (c .before .before .before .before .before)) (c .if1 .taken)
 
 sub-follow : tie.Need-sub-follow
-sub-follow c = let s = solved-at (c .before .before .before .before) in omega (arith, some-block (entry s .pre .0) (entry s .pre .1 .0))
+sub-follow c = let start = entry (solved-at (c .before .before .before .before)) in omega (arith, some-block (start .pre .0) (start .pre .1 .0))
 
 follow-requires : tie.Need-follow-requires
 follow-requires c κs =
     let found = c .before .before .before .before .before in
-    let s = solved-at found in
-    let v = entry s .pre .0 in
-    let p = entry s .pre .1 .0 in
-    let plan = some-plan found in
+    let s = solved (solved-at found) in
+    let start = entry (solved-at found) in
+    let v = start .pre .0 in
+    let p = start .pre .1 .0 in
     let jobs = p .jobs-are in
-    let room = entry s .pre .1 .1 .0 in
-    let long = s .solve .ensures .0 .long in (
+    let room = start .pre .1 .1 .0 in
+    let long = s .fills .long in (
       v,
       (
         p,
         (
-          all-filled (s .solve .ensures .0),
+          all-filled (s .fills),
           (
             omega arith,
             (
@@ -67,7 +81,7 @@ follow-requires c κs =
                 (λ j l u. (omega arith, omega arith)),
                 (
                   jobs ∙ start-places v p,
-                  λ h. start-takes v p plan _ (omega arith) (s .solve .ensures .1 .1 .0 (omega arith) plan),
+                  λ h. start-takes v p (some-plan found) _ (omega arith) (first-is found (omega arith)),
                 ),
               ),
             ),
@@ -80,18 +94,16 @@ returns-2 : tie.Need-returns-2
 returns-2 c =
     let w = c .before .before .before .before .before in
     let found = found-at (followed-at w) in
-    let s = solved-at found in
-    let start = entry s in
-    ends-planned (start .pre .0) (s .solve .ensures .0) (s .solve .ensures .1 .0) (found .if1 .left) (start .args .buffer .now) (start .pre .1 .1 .1) (s .solve .ensures .1 .1 .1 .1) (followed (followed-at w))
+    let start = entry (solved-at found) in
+    ends-planned (solved (solved-at found)) (found .if1 .left) (start .args .buffer .now) (start .pre .1 .1 .1) (followed (followed-at w))
     (sym (c .before .n .given .1) ∙ w .write-plan .ensures .0) (w .write-plan .ensures .1)
 
 returns-3 : tie.Need-returns-3
 returns-3 c =
     let w = c .before .before .before .before .before in
     let found = found-at (followed-at w) in
-    let s = solved-at found in
-    let start = entry s in
-    never-refused (start .pre .0) (s .solve .ensures .0) (s .solve .ensures .1 .0) (found .if1 .left) (start .args .buffer .now) (start .pre .1 .1 .1) (s .solve .ensures .1 .1 .1 .1) (followed (followed-at w))
+    let start = entry (solved-at found) in
+    never-refused (solved (solved-at found)) (found .if1 .left) (start .args .buffer .now) (start .pre .1 .1 .1) (followed (followed-at w))
     (sym (c .before .why .given .1) ∙ w .write-plan .ensures .0)
 
 pub make-plan-spec : {M : Type 1} → statement M

@@ -1,8 +1,8 @@
 -- `planner::plan_record` meets its contract: 15, then 16, then what solving finds.
 -- Assumes nothing.
+use Prim.Native.Nat.{_*_}
 use mathlib.Core.Path.{_≡_, ap₂, _∙_}
 use native.Mathlib.Omega.{arith}
-use Prim.Native.Nat.{_*_}
 use Rattle.sequencing.specs.Entries.{entries}
 use Rattle.problem.specs.OfQueue.{problem}
 use Rattle.problem.proofs.Sizes.{entries-small}
