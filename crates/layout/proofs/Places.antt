@@ -17,7 +17,7 @@ use Rattle.queue.specs.declared.Queue.{Queue}
 use Rattle.queue.specs.Record.{kind, Valid}
 use Rattle.sequencing.specs.Lists.{at, upto}
 use Rattle.sequencing.specs.Problem.{Problem, T, kind as kindIn}
-use Rattle.sequencing.specs.States.{jobsOf, K, allLeft}
+use Rattle.sequencing.specs.States.{jobsOf, K}
 use Rattle.sequencing.proofs.Counting.{getD-filter}
 use Rattle.sequencing.proofs.Sums.{sum-same}
 use Rattle.sequencing.proofs.Vectors.{at-in}
@@ -96,8 +96,6 @@ slotting-none = record { slotting = storing-none; firsts = laying-none; lasts = 
 -- what is known of the next kind's jobs
 pub record NextKind (counts begins jobs : List ℕ) (k : ℕ) : Type 0 where
   pub in-five : k < 5
-  pub long-counts : length counts ≡ 5
-  pub long-begins : length begins ≡ 5
   pub long-jobs : length jobs ≡ 60
   pub fits : getD begins k 0 + getD counts k 0 ≤ 60
 
@@ -152,8 +150,6 @@ module _ {q : Queue} (v : Valid q) {counts begins jobs : List ℕ} (listed : Lis
   pub next-kind : (k : ℕ) → k < q .kinds → NextKind counts begins jobs k
   next-kind k h = record {
     in-five = omega (arith, v .kinds);
-    long-counts = ap length (listed .counts-are) ∙ length-filled 5 (allLeft P);
-    long-begins = ap length (listed .begins-are) ∙ length-filled 5 (map (beginOf P) (upto (q .kinds)));
     long-jobs = ap length (listed .by-kind) ∙ length-filled 60 (byKind P);
     fits = omega (arith, begin-few q v (suc k) (omega arith) h, begin-is (suc k) (omega arith) h, count-is (suc k) (omega arith));
   }

@@ -133,14 +133,14 @@ fn set_kind_places(
 // The slots of every kind.
 fn set_places(
     queue: Queue,
-    counts: &[u32],
-    begins: &[u32],
+    counts: [u32; 5],
+    begins: [u32; 5],
     jobs: &[u8],
     slots: &mut [usize],
     earliest: &mut [u8],
     latest: &mut [u8],
 )
-    requires { ⌜ Valid queue × Listed (problem queue) (now counts) (now begins) (now jobs) ⌝ }
+    requires { ⌜ Valid queue × Listed (problem queue) counts begins (now jobs) ⌝ }
     requires { ⌜ (length (now slots) ≡ 5) × (length (now earliest) ≡ 65) × (length (now latest) ≡ 65) ⌝ }
     ensures { λ _. ⌜ now (slots .exit) ≡ sets (now (slots .entry)) 0 (map (slotOf (problem queue)) (upto (queue .kinds))) ⌝ }
     ensures { λ _. ⌜ now (earliest .exit) ≡ sets (now (earliest .entry)) 0 (bySlot (problem queue) (earliestAt queue)) ⌝ }
@@ -201,8 +201,8 @@ pub fn prepare(queue: Queue) -> Layout
     list_jobs(queue, &mut counts, &mut jobs, &mut begins);
     set_places(
         queue,
-        &counts,
-        &begins,
+        counts,
+        begins,
         &jobs,
         &mut slots,
         &mut earliest,

@@ -17,7 +17,7 @@ abbrev at-entry : tie.After-list-jobs → tie.Start
 at-entry c = c .before .before .before .before .before
 
 abbrev at-listed : tie.After-jobs3 → tie.After-list-jobs
-at-listed c = c .before .before .before .before .before .before
+at-listed c = c .before .before .before .before
 
 abbrev at-placed : tie.After-strides → tie.After-set-places
 at-placed c = c .before .before .before .before .before
@@ -60,8 +60,6 @@ prepare-spec =
     (λ c. search needs)
     (λ c. search needs)
     (λ c κs. search needs)
-    (λ c. search needs)
-    (λ c. search needs)
     (λ c. search needs)
     (λ c. search needs)
     (λ c. search needs)

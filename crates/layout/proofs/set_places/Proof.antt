@@ -8,28 +8,28 @@ use Rattle.layout.proofs.set_places.Statement.{statement}
 use Rattle.layout.proofs.set_places.Tie as tie
 
 abbrev Inv-loop : tie.InvT-loop
-Inv-loop counts begins jobs slots₀ earliest₀ latest₀ kinds first last max-shift kind₀ slots earliest latest kind =
+Inv-loop jobs slots₀ earliest₀ latest₀ counts begins kinds first last max-shift kind₀ slots earliest latest kind =
     Slotting counts begins jobs first last max-shift kinds slots₀ earliest₀ latest₀ slots earliest latest kind
 
 abbrev μ-loop : tie.MeasureT-loop
-μ-loop counts begins jobs slots₀ earliest₀ latest₀ kinds first last max-shift kind₀ slots earliest latest kind = kinds - kind
+μ-loop jobs slots₀ earliest₀ latest₀ counts begins kinds first last max-shift kind₀ slots earliest latest kind = kinds - kind
 
 -- the function's entry, from the loop
-abbrev at-known : tie.After-slice-known3 Inv-loop μ-loop → tie.Start Inv-loop μ-loop
-at-known c = c .before .before .before .before .before .before
+abbrev at-known : tie.After-struct-known Inv-loop μ-loop → tie.Start Inv-loop μ-loop
+at-known c = c .before .before .before .before .before
 
 abbrev at-entry : tie.At-loop Inv-loop μ-loop → tie.Start Inv-loop μ-loop
-at-entry c = at-known (c .before .before .before .before)
+at-entry c = at-known (c .before .before .before)
 
 -- the loop, from the call and from behind it
 abbrev at-test : tie.After-set-kind-places-arg2 Inv-loop μ-loop → tie.In-loop Inv-loop μ-loop
-at-test c = c .before .before .before .before
+at-test c = c .before .before
 
 abbrev at-call : tie.After-slice-known5 Inv-loop μ-loop → tie.After-set-kind-places Inv-loop μ-loop
 at-call c = c .before .before .before .before
 
 next : (c : tie.In-loop Inv-loop μ-loop)
-    → NextKind (at-entry (c .before) .args .counts .now) (at-entry (c .before) .args .begins .now) (at-entry (c .before) .args .jobs .now) (c .before .loop .kind)
+    → NextKind (at-entry (c .before) .args .t2) (at-entry (c .before) .args .t3) (at-entry (c .before) .args .jobs .now) (c .before .loop .kind)
 next c = let pre = at-entry (c .before) .pre .0 in next-kind (pre .0) (pre .1) _ (c .loop-test .taken)
 
 set-kind-places-requires : tie.Need-set-kind-places-requires Inv-loop μ-loop
@@ -58,15 +58,15 @@ set-places-spec =
     (λ c. search needs)
     (λ c. slotting-none)
     (λ c. search needs)
-    (λ c. let n = next (c .before) in omega arith)
-    (λ c. let n = next (c .before) in omega arith)
-    (λ c. let n = next (c .before) in omega arith)
+    (λ c. search needs)
+    (λ c. let n = next c in omega arith)
+    (λ c. let n = next c in omega arith)
     (λ c. search needs)
     (λ c. search needs)
     (λ c. search needs)
-    (λ c. let n = next (c .before .before) in omega arith)
-    (λ c. let n = next (c .before .before) in omega arith)
-    (λ c. let n = next (c .before .before) in omega arith)
+    (λ c. search needs)
+    (λ c. let n = next c in omega arith)
+    (λ c. let n = next c in omega arith)
     (λ c. search needs)
     (λ c. search needs)
     set-kind-places-requires
