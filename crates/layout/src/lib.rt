@@ -170,10 +170,10 @@ fn set_places(
 }
 
 // What one job of each kind counts for in an entry number; returns 01's P.
-fn set_strides(counts: &[u32], kinds: usize, strides: &mut [usize]) -> usize
-    requires { ⌜ (kinds ≤ 5) × (length (now counts) ≡ 5) × (length (now strides) ≡ 5) × ((j : ℕ) → j < kinds → getD (now counts) j 0 ≤ 60) ⌝ }
-    ensures { λ r. ⌜ r ≡ size (take kinds (now (counts .entry))) ⌝ }
-    ensures { λ _. ⌜ now (strides .exit) ≡ sets (now (strides .entry)) 0 (map (stride (take kinds (now (counts .entry)))) (upto kinds)) ⌝ }
+fn set_strides(counts: [u32; 5], kinds: usize, strides: &mut [usize]) -> usize
+    requires { ⌜ (kinds ≤ 5) × (length (now strides) ≡ 5) × ((j : ℕ) → j < kinds → getD counts j 0 ≤ 60) ⌝ }
+    ensures { λ r. ⌜ r ≡ size (take kinds counts) ⌝ }
+    ensures { λ _. ⌜ now (strides .exit) ≡ sets (now (strides .entry)) 0 (map (stride (take kinds counts)) (upto kinds)) ⌝ }
 {
     let mut product: usize = 1;
     let mut j: usize = 0;
@@ -208,7 +208,7 @@ pub fn prepare(queue: Queue) -> Layout
         &mut earliest,
         &mut latest,
     );
-    let block = set_strides(&counts, kinds, &mut strides);
+    let block = set_strides(counts, kinds, &mut strides);
     Layout {
         size: Size {
             kinds,

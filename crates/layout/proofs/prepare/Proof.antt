@@ -20,7 +20,7 @@ abbrev at-listed : tie.After-jobs3 → tie.After-list-jobs
 at-listed c = c .before .before .before .before
 
 abbrev at-placed : tie.After-strides → tie.After-set-places
-at-placed c = c .before .before .before .before .before
+at-placed c = c .before .before .before .before
 
 abbrev at-jobs : tie.After-set-places → tie.After-list-jobs
 at-jobs c = at-listed (c .before .before .before .before)
@@ -29,7 +29,7 @@ set-strides-requires : tie.Need-set-strides-requires
 set-strides-requires c κs =
     let listed = at-jobs (at-placed c) in
     let valid = at-entry listed .pre in
-    (search needs, search needs, search needs, λ j h. rw (listed .list-jobs .ensures .0) (counts-small _ valid (suc j)))
+    (search needs, search needs, λ j h. rw (listed .list-jobs .ensures .0) (counts-small _ valid (suc j)))
 
 returns : tie.Need-returns
 returns c =
@@ -65,7 +65,6 @@ prepare-spec =
     (λ c. search needs)
     (λ c. search needs)
     (λ c κs. search needs)
-    (λ c. search needs)
     (λ c. search needs)
     set-strides-requires
     returns)
