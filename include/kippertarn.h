@@ -31,7 +31,7 @@
 extern "C" {
 #endif
 
-#define KIPPERTARN_VERSION "1.0.0"
+#define KIPPERTARN_VERSION "1.1.0"
 
 #define KIPPERTARN_QUEUE_BYTES 178 /* the longest queue message that is accepted */
 #define KIPPERTARN_PLAN_BYTES 77   /* the longest plan message, and the least plan buffer that may be lent */
@@ -68,7 +68,8 @@ enum kippertarn_refusal {
     KIPPERTARN_PUPILS = 10,    /* pupils over 1000 */
     KIPPERTARN_PLACES = 11,    /* allowed places: a_j is 0, b_j < a_j, or b_j over 60 */
     KIPPERTARN_JOBS = 12,      /* T over 60 */
-    KIPPERTARN_KIND = 13,      /* kind of a job 0 or over N */
+    KIPPERTARN_JOB_KIND = 13,  /* kind of a job 0 or over N */
+    KIPPERTARN_KIND = 13,      /* the same, by its name in version 1.0.0 */
     KIPPERTARN_LEFT_OVER = 14, /* bytes left over after the last number */
     KIPPERTARN_BUFFER = 15,    /* plan buffer under 77 bytes */
     KIPPERTARN_TABLE = 16,     /* table under N x P entries; V is N x P */

@@ -8,7 +8,7 @@ use mathlib.Core.Path.{_≡_, refl}
 use native.Mathlib.Omega.{arith}
 use lib.Dec.{ltb}
 use Rattle.refusal.specs.declared.Reason.{Reason}
-use Rattle.refusal.specs.declared.Reason.the-variants.{Opening, Ends, Groups, Edition, Kinds, Goal, Shift, Start, Gap, Pupils, Places, Jobs, Kind, LeftOver, Buffer, Table, NoOrder, Job}
+use Rattle.refusal.specs.declared.Reason.the-variants.{Opening, Ends, Groups, Edition, Kinds, Goal, Shift, Start, Gap, Pupils, Places, Jobs, JobKind, LeftOver, Buffer, Table, NoOrder, Job}
 use Rattle.refusal.specs.declared.Verdict.{Verdict}
 use Rattle.refusal.specs.declared.Verdict.the-variants.{Accepted, Refused as NotAccepted}
 use Rattle.refusal.specs.Reasons.{reasonNumber}
@@ -40,7 +40,7 @@ reason-range Gap = (omega arith, omega arith)
 reason-range Pupils = (omega arith, omega arith)
 reason-range Places = (omega arith, omega arith)
 reason-range Jobs = (omega arith, omega arith)
-reason-range Kind = (omega arith, omega arith)
+reason-range JobKind = (omega arith, omega arith)
 reason-range LeftOver = (omega arith, omega arith)
 reason-range Buffer = (omega arith, omega arith)
 reason-range (Table n) = (omega arith, omega arith)

@@ -65,9 +65,6 @@ module _ {q : Queue} (v : Valid q) {l : Layout} (p : Prepared q l) where
   pub counts-at : (j : ℕ) → 1 ≤ j → at (l .counts) j ≡ K (problem q) j
   counts-at j h = ap (λ cs. at cs j) (p .counts-are) ∙ counts-in q v j h
 
-  pub counts-few : (j : ℕ) → at (l .counts) j ≤ 60
-  counts-few j = rw (p .counts-are) (counts-small q v j)
-
   pub counts-take : take (q .kinds) (l .counts) ≡ allLeft (problem q)
   counts-take = ap (take (q .kinds)) (p .counts-are) ∙ counts-all q v
 

@@ -6,9 +6,9 @@ use Rattle.refusal.specs.declared.Reason.the-variants.{Opening, Ends, Groups, E
 pub data PlanRefusal : Reason → Type 0 where
   on-opening : PlanRefusal Opening
   on-ends : PlanRefusal Ends
-  on-malformed : PlanRefusal Groups
+  on-groups : PlanRefusal Groups
   on-edition : PlanRefusal Edition
   on-goal : PlanRefusal Goal
   on-jobs : PlanRefusal Jobs
   on-job : PlanRefusal Job
-  on-trailing : PlanRefusal LeftOver
+  on-left-over : PlanRefusal LeftOver

@@ -10,7 +10,7 @@ use Rattle.refusal.specs.Reasons.{needed}
 use Rattle.number.specs.Readers.{Found, found, refused}
 use Rattle.plan.specs.declared.Plan.{Plan}
 use Rattle.plan.specs.Reading.{plan, asReading, readPlan}
-use Rattle.plan.specs.Refusals.{PlanRefusal, on-opening, on-ends, on-malformed, on-edition, on-goal, on-jobs, on-job, on-trailing}
+use Rattle.plan.specs.Refusals.{PlanRefusal, on-opening, on-ends, on-groups, on-edition, on-goal, on-jobs, on-job, on-left-over}
 use Rattle.formats.proofs.Refusals.{arises-in}
 use Rattle.plan_laws.proofs.Format.{planRefusals, plan-message}
 
@@ -22,16 +22,16 @@ refused-as (refused q) r e = cc
 pub plan-refusal : (s : List ℕ) (r : Reason) → readPlan s .verdict ≡ Refused r → PlanRefusal r
 unfolding readPlan
 plan-refusal s r e =
-    arises-in PlanRefusal on-ends on-malformed planRefusals (on-opening, (on-trailing, (on-edition, (on-goal, (on-jobs, (on-job, tt)))))) r
+    arises-in PlanRefusal on-ends on-groups planRefusals (on-opening, (on-left-over, (on-edition, (on-goal, (on-jobs, (on-job, tt)))))) r
     (plan-message .gives s r (refused-as (plan s 0) r e))
 
 -- .. which carry nothing
 pub plan-refusal-needed : (r : Reason) → PlanRefusal r → needed r ≡ 0
 plan-refusal-needed r on-opening = refl
 plan-refusal-needed r on-ends = refl
-plan-refusal-needed r on-malformed = refl
+plan-refusal-needed r on-groups = refl
 plan-refusal-needed r on-edition = refl
 plan-refusal-needed r on-goal = refl
 plan-refusal-needed r on-jobs = refl
 plan-refusal-needed r on-job = refl
-plan-refusal-needed r on-trailing = refl
+plan-refusal-needed r on-left-over = refl

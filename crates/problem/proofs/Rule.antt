@@ -86,18 +86,3 @@ module _ (q : Queue) where
     -- and on jobs
     pub few-jobs : T (problem q) ≤ 60
     few-jobs = omega (arith, jobs-is, v .jobs)
-
-    -- a job's earliest and latest place are places of 01
-    pub earliest-few : (i : ℕ) → 1 ≤ i → i ≤ q .jobs → earliest q i ≤ 60
-    unfolding earliest
-    earliest-few i l u =
-        let k = v .kinds-of-jobs i l u in
-        let w = v .places (kind q i) (k .0) (k .1) in
-        omega (arith, v .jobs)
-
-    pub latest-few : (i : ℕ) → 1 ≤ i → i ≤ q .jobs → latest q i ≤ 60
-    unfolding latest
-    latest-few i l u =
-        let k = v .kinds-of-jobs i l u in
-        let w = v .places (kind q i) (k .0) (k .1) in
-        omega arith

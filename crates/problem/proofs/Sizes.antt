@@ -1,4 +1,4 @@
--- How many jobs of a kind, and how many entries, a queue has at most.
+-- How many entries a queue has at most.
 -- Assumes nothing.
 use Prim.Native.Nat.{ℕ, zero, suc, _^_, _≤_, _<_}
 use mathlib.Core.List.{List, [], _∷_}
@@ -8,9 +8,9 @@ use lib.ListN.{length}
 use Rattle.queue.specs.declared.Queue.{Queue}
 use Rattle.queue.specs.Record.{Valid}
 use Rattle.sequencing.specs.Lists.{at}
-use Rattle.sequencing.specs.States.{allLeft, K}
+use Rattle.sequencing.specs.States.{allLeft}
 use Rattle.sequencing.specs.Entries.{size, block, entries}
-use Rattle.sequencing.proofs.AllJobs.{at-all, length-all, sum-all}
+use Rattle.sequencing.proofs.AllJobs.{length-all, sum-all}
 use Rattle.sequencing.proofs.Vectors.{at-sum}
 use Rattle.problem.specs.OfQueue.{problem}
 use Rattle.problem.proofs.Rule.{proper, few-jobs}
@@ -25,21 +25,12 @@ size-most (c ∷ cs) h = rw (pow-suc 61 (length cs)) (omega (arith, mul-le-mul {
     later g (suc j) = g (suc (suc j))
 
 module _ (q : Queue) (v : Valid q) where
-  pub kind-few : (j : ℕ) → 1 ≤ j → j ≤ q .kinds → K (problem q) j ≤ 60
-  kind-few j l u = omega (arith, at-all (problem q) j l u, at-sum (allLeft (problem q)) j, sum-all (problem q) (proper q v), few-jobs q v)
-
   block-most : block (problem q) ≤ 61 ^ 5
   block-most =
       let P = problem q in
       let few : (j : ℕ) → at (allLeft P) j ≤ 60 = λ j. omega (arith, at-sum (allLeft P) j, sum-all P (proper q v), few-jobs q v) in
       le-trans (size-most (allLeft P) few) (pow-le-pow-right {n = 61} (omega arith) {i = length (allLeft P)} {j = 5} (omega (arith, length-all P, v .kinds)))
 
-  pub block-fits : block (problem q) < 2 ^ 64
-  block-fits = omega (arith, block-most)
-
-  -- a count of entries fits six groups of seven bits, and so 64 bits
+  -- a count of entries fits six groups of seven bits
   pub entries-small : entries (problem q) < 2 ^ 42
   entries-small = omega (arith, mul-le-mul {n₁ = q .kinds} {m₁ = block (problem q)} {n₂ = 5} {m₂ = 61 ^ 5} (v .kinds .1) block-most)
-
-  pub entries-fit : entries (problem q) < 2 ^ 64
-  entries-fit = omega (arith, entries-small)

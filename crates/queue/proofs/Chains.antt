@@ -7,7 +7,7 @@ use mathlib.Core.List.{List}
 use lib.Dec.{eqb}
 use lib.ListN.{length}
 use Rattle.refusal.specs.declared.Reason.{Reason}
-use Rattle.refusal.specs.declared.Reason.the-variants.{Opening, Edition, Gap, Pupils, Jobs, Kind, LeftOver}
+use Rattle.refusal.specs.declared.Reason.the-variants.{Opening, Edition, Gap, Pupils, Jobs, JobKind, LeftOver}
 use Rattle.number.specs.Readers.{Found, found, refused, Reader, times}
 use Rattle.fields.specs.Fields.{field, within}
 use Rattle.fields.specs.Messages.{opens}
@@ -23,7 +23,7 @@ abbrev pub weightField : Reader ℕ
 weightField = field 3 (within 0 1000) Pupils
 
 abbrev pub kindField : ℕ → Reader ℕ
-kindField n = field 3 (within 1 n) Kind
+kindField n = field 3 (within 1 n) JobKind
 
 module _ (f : Settings) (s : List ℕ) (at : ℕ) where
   abbrev pub rowsAt : Found (List (List ℕ))

@@ -3,7 +3,7 @@ use Prim.Native.Nat.{ℕ, _+_}
 use mathlib.Core.List.{List, [], _∷_, _++_, flatMap}
 use mathlib.Core.Path.{_≡_, refl}
 use lib.ListN.{drop, take}
-use Rattle.refusal.specs.declared.Reason.the-variants.{Opening, Ends, Groups, Edition, Kinds, Goal, Shift, Start, Gap, Pupils, Places, Jobs, Kind, LeftOver, Buffer}
+use Rattle.refusal.specs.declared.Reason.the-variants.{Opening, Ends, Groups, Edition, Kinds, Goal, Shift, Start, Gap, Pupils, Places, Jobs, JobKind, LeftOver, Buffer}
 use Rattle.refusal.specs.declared.Verdict.the-variants.{Accepted, Refused}
 use Rattle.refusal.specs.declared.Written.the-variants.{Bytes, Refused as NotWritten}
 use Rattle.number.specs.Readers.{refused, times}
@@ -69,7 +69,7 @@ Examples =
     × (readQueue (take 15 bytesA ++ (0x00 ∷ [])) ≡ asReading (refused Ends))
     -- 12 before any job, 13, 14
     × (readQueue (take 19 bytesA ++ (0x3D ∷ [])) ≡ asReading (refused Jobs))
-    × (readQueue (with 22 (0x03 ∷ [])) ≡ asReading (refused Kind))
+    × (readQueue (with 22 (0x03 ∷ [])) ≡ asReading (refused JobKind))
     × (readQueue (bytesA ++ (0x00 ∷ [])) ≡ asReading (refused LeftOver))
     -- writing: the record before the buffer
     × (writeQueue (queueOf 2 1 3 (1 ∷ 2 ∷ 1 ∷ [])) 178 ≡ Bytes 23)
@@ -86,8 +86,8 @@ Examples =
     × (judge (recordOf 1 0 10 3 (0, 60) (1 ∷ 2 ∷ 1 ∷ [])) ≡ Refused Places)
     × (judge (recordOf 1 0 10 3 (1, 61) (1 ∷ 2 ∷ 1 ∷ [])) ≡ Refused Places)
     × (judge (queueOf 2 1 61 []) ≡ Refused Jobs)
-    × (judge (recordOf 1 0 10 3 (1, 60) (1 ∷ 2 ∷ 3 ∷ [])) ≡ Refused Kind)
-    × (judge (recordOf 1 0 10 3 (1, 60) (1 ∷ 2 ∷ 0 ∷ [])) ≡ Refused Kind)
+    × (judge (recordOf 1 0 10 3 (1, 60) (1 ∷ 2 ∷ 3 ∷ [])) ≡ Refused JobKind)
+    × (judge (recordOf 1 0 10 3 (1, 60) (1 ∷ 2 ∷ 0 ∷ [])) ≡ Refused JobKind)
 
 pub examples : Examples
 unfolding groupsAt groups encode opens times tabulate flatMap all placed settings tables head jobs queue readQueue headBytes jobBytes message judgeSettings judgeTables judgeHead judgeJobs judge writeQueue

@@ -3,7 +3,7 @@ use Prim.Native.Nat.{ℕ, suc, _+_}
 use mathlib.Core.List.{List, [], _∷_, map}
 use lib.ListN.{replicate}
 use lib.Seq.{sets}
-use Rattle.refusal.specs.declared.Reason.the-variants.{Edition, Kinds, Goal, Shift, Start, Gap, Pupils, Places, Jobs, Kind}
+use Rattle.refusal.specs.declared.Reason.the-variants.{Edition, Kinds, Goal, Shift, Start, Gap, Pupils, Places, Jobs, JobKind}
 use Rattle.number.specs.Readers.{Found, found, refused, Reader, _>>=_, _>>_, give, times}
 use Rattle.number.specs.Numbers.{number}
 use Rattle.fields.specs.Fields.{field, within}
@@ -83,7 +83,7 @@ withJobs q t kinds = record {
 unfoldable pub jobs : Queue → Reader Queue
 jobs q = do
   t ← field 3 (within 0 60) Jobs
-  kinds ← times t (field 3 (within 1 (q .kinds)) Kind)
+  kinds ← times t (field 3 (within 1 (q .kinds)) JobKind)
   give (withJobs q t kinds)
 
 -- nothing is left over after the last number

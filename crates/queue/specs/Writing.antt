@@ -2,7 +2,7 @@
 use Prim.Native.Nat.{ℕ}
 use mathlib.Core.List.{List, [], _∷_, _++_, flatMap}
 use lib.ListN.{length}
-use Rattle.refusal.specs.declared.Reason.the-variants.{Kinds, Goal, Shift, Start, Gap, Pupils, Places, Jobs, Kind}
+use Rattle.refusal.specs.declared.Reason.the-variants.{Kinds, Goal, Shift, Start, Gap, Pupils, Places, Jobs, JobKind}
 use Rattle.number.specs.Numbers.{encode}
 use Rattle.fields.specs.Fields.{within, all, encodeAll}
 use Rattle.fields.specs.Messages.{check, _before_, writeAnswer, bufferAfter}
@@ -52,7 +52,7 @@ judgeHead q = judgeSettings q before judgeTables q
 
 -- 12 and 13
 unfoldable pub judgeJobs : Queue → Verdict
-judgeJobs q = check (within 0 60 (q .jobs)) Jobs before check (all (within 1 (q .kinds)) (kindList q)) Kind
+judgeJobs q = check (within 0 60 (q .jobs)) Jobs before check (all (within 1 (q .kinds)) (kindList q)) JobKind
 
 -- the record judged in message order, 5 to 13: the first that refuses
 unfoldable pub judge : Queue → Verdict

@@ -7,7 +7,7 @@ use mathlib.Core.List.{List, [], _∷_}
 use native.Mathlib.Omega.{arith}
 use lib.ListN.{length-append}
 use borrow.Author.Tests.{lt-ltb}
-use Rattle.refusal.specs.declared.Reason.the-variants.{Edition, Kinds, Goal, Shift, Start, Gap, Pupils, Places, Jobs, Kind}
+use Rattle.refusal.specs.declared.Reason.the-variants.{Edition, Kinds, Goal, Shift, Start, Gap, Pupils, Places, Jobs, JobKind}
 use Rattle.number.specs.Numbers.{encode}
 use Rattle.number.proofs.Encoding.{length-encode}
 use Rattle.fields.specs.Fields.{within, all}
@@ -65,10 +65,10 @@ tablesFormat n few =
     alike windowFormat windowOk Places (λ w. refl) n 5 (λ z. few (z .0 .0))
 
 -- T, then the T kinds
-abbrev pub jobsFormat : {Given : Type 0} (n : ℕ) → (Given → n ≤ 5) → Format (ℕ × List ℕ) Given 61 63 (Jobs ∷ Kind ∷ [])
+abbrev pub jobsFormat : {Given : Type 0} (n : ℕ) → (Given → n ≤ 5) → Format (ℕ × List ℕ) Given 61 63 (Jobs ∷ JobKind ∷ [])
 jobsFormat n few =
     andNext (oneByte 0 60 Jobs (λ z. omega arith)) λ t.
-    numbers t 60 (λ z. omega arith) 1 n Kind 1 (omega arith) (λ z. let k = few (z .0) in (omega arith, omega arith))
+    numbers t 60 (λ z. omega arith) 1 n JobKind 1 (omega arith) (λ z. let k = few (z .0) in (omega arith, omega arith))
 
 -- edition, settings, tables, jobs
 abbrev pub Parts : Type 0
@@ -97,7 +97,7 @@ module _ (p : Parts) where
   kindsOf = p .1 .1 .1 .1
 
 -- the whole: edition 1, then N to the allowed places, then the jobs
-abbrev pub queueFormat : Format Parts (Unit {0}) 176 178 (Edition ∷ Kinds ∷ Goal ∷ Shift ∷ Start ∷ Gap ∷ Pupils ∷ Places ∷ Jobs ∷ Kind ∷ [])
+abbrev pub queueFormat : Format Parts (Unit {0}) 176 178 (Edition ∷ Kinds ∷ Goal ∷ Shift ∷ Start ∷ Gap ∷ Pupils ∷ Places ∷ Jobs ∷ JobKind ∷ [])
 queueFormat =
     andNext (oneByte 1 1 Edition (λ z. omega arith)) λ edition.
     andNext settingsFormat λ f.

@@ -6,7 +6,7 @@ use mathlib.Core.List.{List, [], _∷_, _++_, map, flatMap, append-assoc}
 use native.Mathlib.Omega.{arith}
 use lib.ListN.{length, getD, length-map}
 use Rattle.refusal.specs.declared.Reason.{Reason}
-use Rattle.refusal.specs.declared.Reason.the-variants.{Opening, LeftOver, Edition, Kinds, Goal, Shift, Start, Gap, Pupils, Places, Jobs, Kind}
+use Rattle.refusal.specs.declared.Reason.the-variants.{Opening, LeftOver, Edition, Kinds, Goal, Shift, Start, Gap, Pupils, Places, Jobs, JobKind}
 use Rattle.refusal.specs.declared.Verdict.the-variants.{Accepted}
 use Rattle.number.specs.Numbers.{encode}
 use Rattle.fields.specs.Fields.{encodeAll}
@@ -192,7 +192,7 @@ tied = record {
 
 -- 01's refusals 1 to 14, beside 2 and 3, which any number can give
 abbrev pub queueRefusals : List Reason
-queueRefusals = Opening ∷ LeftOver ∷ Edition ∷ Kinds ∷ Goal ∷ Shift ∷ Start ∷ Gap ∷ Pupils ∷ Places ∷ Jobs ∷ Kind ∷ []
+queueRefusals = Opening ∷ LeftOver ∷ Edition ∷ Kinds ∷ Goal ∷ Shift ∷ Start ∷ Gap ∷ Pupils ∷ Places ∷ Jobs ∷ JobKind ∷ []
 
 -- at most 178 bytes, of which the first 180 decide
 pub queue-message : Message queue message Valid Fits judge cleared 178 180 queueRefusals

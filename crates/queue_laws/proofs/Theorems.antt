@@ -16,7 +16,7 @@ use Rattle.queue.specs.declared.Reading.{Reading}
 use Rattle.queue.specs.Record.{Valid, Fits}
 use Rattle.queue.specs.Reading.{queue, accepted, asReading, readQueue, cleared}
 use Rattle.queue.specs.Writing.{message, judge}
-use Rattle.queue.specs.Refusals.{QueueRefusal, on-opening, on-ends, on-malformed, on-edition, on-kinds, on-goal, on-shift, on-start, on-gap, on-pupils, on-places, on-jobs, on-kind, on-left-over}
+use Rattle.queue.specs.Refusals.{QueueRefusal, on-opening, on-ends, on-groups, on-edition, on-kinds, on-goal, on-shift, on-start, on-gap, on-pupils, on-places, on-jobs, on-job-kind, on-left-over}
 use Rattle.formats.proofs.Refusals.{arises-in}
 use Rattle.queue_laws.proofs.Message.{queueRefusals, queue-message}
 
@@ -80,15 +80,15 @@ judged-exactly = queue-message .accepts
 pub queue-refusal : (s : List ℕ) (r : Reason) → readQueue s .verdict ≡ Refused r → QueueRefusal r
 unfolding readQueue
 queue-refusal s r e =
-    arises-in QueueRefusal on-ends on-malformed queueRefusals
-    (on-opening, (on-left-over, (on-edition, (on-kinds, (on-goal, (on-shift, (on-start, (on-gap, (on-pupils, (on-places, (on-jobs, (on-kind, tt)))))))))))) r
+    arises-in QueueRefusal on-ends on-groups queueRefusals
+    (on-opening, (on-left-over, (on-edition, (on-kinds, (on-goal, (on-shift, (on-start, (on-gap, (on-pupils, (on-places, (on-jobs, (on-job-kind, tt)))))))))))) r
     (queue-message .gives s r (refused-as (queue s 0) r e))
 
 -- .. which carry nothing
 pub queue-refusal-needed : (r : Reason) → QueueRefusal r → needed r ≡ 0
 queue-refusal-needed r on-opening = refl
 queue-refusal-needed r on-ends = refl
-queue-refusal-needed r on-malformed = refl
+queue-refusal-needed r on-groups = refl
 queue-refusal-needed r on-edition = refl
 queue-refusal-needed r on-kinds = refl
 queue-refusal-needed r on-goal = refl
@@ -98,14 +98,14 @@ queue-refusal-needed r on-gap = refl
 queue-refusal-needed r on-pupils = refl
 queue-refusal-needed r on-places = refl
 queue-refusal-needed r on-jobs = refl
-queue-refusal-needed r on-kind = refl
+queue-refusal-needed r on-job-kind = refl
 queue-refusal-needed r on-left-over = refl
 
 -- .. and whose numbers say so
 pub queue-refusal-number : (r : Reason) → QueueRefusal r → reasonNumber r ≤ 14
 queue-refusal-number r on-opening = omega arith
 queue-refusal-number r on-ends = omega arith
-queue-refusal-number r on-malformed = omega arith
+queue-refusal-number r on-groups = omega arith
 queue-refusal-number r on-edition = omega arith
 queue-refusal-number r on-kinds = omega arith
 queue-refusal-number r on-goal = omega arith
@@ -115,7 +115,7 @@ queue-refusal-number r on-gap = omega arith
 queue-refusal-number r on-pupils = omega arith
 queue-refusal-number r on-places = omega arith
 queue-refusal-number r on-jobs = omega arith
-queue-refusal-number r on-kind = omega arith
+queue-refusal-number r on-job-kind = omega arith
 queue-refusal-number r on-left-over = omega arith
 
 -- a record that fits a message: the writer refuses it with the refusal that the reader would give its message

@@ -330,7 +330,7 @@ fn read_jobs(bytes: &[u8], at: usize, queue: Queue) -> Reading
                 jobs as usize,
                 1,
                 queue.kinds,
-                Reason::Kind,
+                Reason::JobKind,
                 &mut job_kinds,
                 0,
             );

@@ -142,7 +142,7 @@ fn judge_jobs(queue: Queue) -> Verdict
     let jobs = queue.jobs as usize;
     let job_kinds = queue.job_kinds;
     if !judge_kinds(&job_kinds, jobs, queue.kinds as u64) {
-        return Verdict::Refused(Reason::Kind);
+        return Verdict::Refused(Reason::JobKind);
     }
     Verdict::Accepted
 }

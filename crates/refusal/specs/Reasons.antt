@@ -3,7 +3,7 @@ use Prim.Native.Nat.{ℕ}
 use mathlib.Core.Bool.{cond}
 use lib.Dec.{leb, eqb}
 use Rattle.refusal.specs.declared.Reason.{Reason}
-use Rattle.refusal.specs.declared.Reason.the-variants.{Opening, Ends, Groups, Edition, Kinds, Goal, Shift, Start, Gap, Pupils, Places, Jobs, Kind, LeftOver, Buffer, Table, NoOrder, Job}
+use Rattle.refusal.specs.declared.Reason.the-variants.{Opening, Ends, Groups, Edition, Kinds, Goal, Shift, Start, Gap, Pupils, Places, Jobs, JobKind, LeftOver, Buffer, Table, NoOrder, Job}
 use Rattle.refusal.specs.declared.Group.{Group}
 use Rattle.refusal.specs.declared.Group.the-variants.{Message, Contents, Room, Order as InOrder, Unprinted}
 
@@ -21,7 +21,7 @@ reasonNumber Gap = 9
 reasonNumber Pupils = 10
 reasonNumber Places = 11
 reasonNumber Jobs = 12
-reasonNumber Kind = 13
+reasonNumber JobKind = 13
 reasonNumber LeftOver = 14
 reasonNumber Buffer = 15
 reasonNumber (Table n) = 16
@@ -42,7 +42,7 @@ needed Gap = 0
 needed Pupils = 0
 needed Places = 0
 needed Jobs = 0
-needed Kind = 0
+needed JobKind = 0
 needed LeftOver = 0
 needed Buffer = 0
 needed (Table n) = n
@@ -63,7 +63,7 @@ reasonGroup Gap = Contents
 reasonGroup Pupils = Contents
 reasonGroup Places = Contents
 reasonGroup Jobs = Contents
-reasonGroup Kind = Contents
+reasonGroup JobKind = Contents
 reasonGroup LeftOver = Message
 reasonGroup Buffer = Room
 reasonGroup (Table n) = Room

@@ -29,7 +29,7 @@ pub enum Reason {
     // 12: the number of jobs is over 60.
     Jobs,
     // 13: a job's kind is 0 or over the number of kinds.
-    Kind,
+    JobKind,
     // 14: bytes are left over after the last number.
     LeftOver,
     // 15: the buffer is too short.
@@ -89,7 +89,7 @@ pub fn reason_number(reason: Reason) -> u64
         Reason::Pupils => 10,
         Reason::Places => 11,
         Reason::Jobs => 12,
-        Reason::Kind => 13,
+        Reason::JobKind => 13,
         Reason::LeftOver => 14,
         Reason::Buffer => 15,
         Reason::Table(_) => 16,

@@ -70,12 +70,6 @@ module _ (P : Problem) where
     unfolding number
     number-next = omega (arith, index-complete (allLeft P) k x (s .long ∙ sym (length-all P)) h)
 
-    -- so its k comes earlier
-    pub next-earlier : index (allLeft P) (complete k x) < index (allLeft P) k
-    next-earlier =
-        let q = at-in k x h in
-        omega (arith, index-complete (allLeft P) k x (s .long ∙ sym (length-all P)) h, stride-pos (allLeft P) x (q .0) (omega (arith, s .long, length-all P)))
-
   -- ---- what the entries hold
 
   -- a pair's entry holds its value

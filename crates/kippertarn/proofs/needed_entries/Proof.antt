@@ -7,7 +7,7 @@ use types.Run.{OneOf, miss}
 use denote.Enum.Declared.{tagOf}
 use Rattle.refusal.proofs.Reason.{the-type}
 use Rattle.refusal.specs.declared.Reason.{Reason}
-use Rattle.refusal.specs.declared.Reason.the-variants.{Opening, Ends, Groups, Edition, Kinds, Goal, Shift, Start, Gap, Pupils, Places, Jobs, Kind, LeftOver, Buffer, Table, NoOrder, Job}
+use Rattle.refusal.specs.declared.Reason.the-variants.{Opening, Ends, Groups, Edition, Kinds, Goal, Shift, Start, Gap, Pupils, Places, Jobs, JobKind, LeftOver, Buffer, Table, NoOrder, Job}
 use Rattle.refusal.specs.Reasons.{needed}
 use borrow.Author.Needs.{needs}
 use Rattle.kippertarn.proofs.needed_entries.Statement.{statement}
@@ -36,7 +36,7 @@ returns-2 c = go (c .before .args .reason) (c .match .keys2)
     go Pupils h = refl
     go Places h = refl
     go Jobs h = refl
-    go Kind h = refl
+    go JobKind h = refl
     go LeftOver h = refl
     go Buffer h = refl
     go (Table n) h = absurd (miss others (tagOf the-type (Table n)) tt h)

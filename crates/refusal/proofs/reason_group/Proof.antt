@@ -3,7 +3,7 @@
 use mathlib.Core.Path.{_≡_, refl, ap, _∙_}
 use borrow.Author.Needs.{needs}
 use Rattle.refusal.specs.declared.Reason.{Reason}
-use Rattle.refusal.specs.declared.Reason.the-variants.{Opening, Ends, Groups, Edition, Kinds, Goal, Shift, Start, Gap, Pupils, Places, Jobs, Kind, LeftOver, Buffer, Table, NoOrder, Job}
+use Rattle.refusal.specs.declared.Reason.the-variants.{Opening, Ends, Groups, Edition, Kinds, Goal, Shift, Start, Gap, Pupils, Places, Jobs, JobKind, LeftOver, Buffer, Table, NoOrder, Job}
 use Rattle.refusal.specs.Reasons.{reasonNumber, reasonGroup, numberGroup}
 use Rattle.refusal.proofs.reason_group.Statement.{statement}
 use Rattle.refusal.proofs.reason_group.Tie as tie
@@ -22,7 +22,7 @@ by-number Gap = refl
 by-number Pupils = refl
 by-number Places = refl
 by-number Jobs = refl
-by-number Kind = refl
+by-number JobKind = refl
 by-number LeftOver = refl
 by-number Buffer = refl
 by-number (Table n) = refl
