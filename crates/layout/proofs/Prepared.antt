@@ -21,7 +21,7 @@ use Rattle.problem.proofs.Rule.{allowed-between}
 use Rattle.layout.specs.declared.Layout.{Layout}
 use Rattle.layout.specs.Prepared.{byKind, beginOf, bySlot, slotOf, jobCut, earliestAt, latestAt, Prepared}
 use Rattle.layout.proofs.Blocks.{getD-sets-in, getD-filled}
-use Rattle.layout.proofs.Positions.{length-filled, of-kinds, counts-in, counts-small, counts-all, begin-few, by-kind-at, all-by-slot, slot-within, by-slot-at}
+use Rattle.layout.proofs.Positions.{length-filled, of-kinds, counts-in, counts-all, begin-few, by-kind-at, all-by-slot, slot-within, by-slot-at}
 
 none-between : (p : ℕ) → leb 1 p && leb p 0 ≡ false
 none-between zero = refl

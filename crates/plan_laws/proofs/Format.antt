@@ -1,12 +1,10 @@
 -- The plan message as one format; the definitions say it, so the laws of formats hold of them.
 -- Assumes nothing.
 use Prim.Native.Nat.{ℕ, _-_, _^_, _<_, _≤_}
-use mathlib.Core.Path.{_≡_, refl, sym, _∙_}
+use mathlib.Core.Path.{_≡_, refl}
 use mathlib.Core.Bool.{true, not}
-use mathlib.Core.Logic.{_↔_}
 use mathlib.Core.List.{List, [], _∷_, _++_, append-assoc}
 use native.Mathlib.Omega.{arith}
-use lib.ListN.{length}
 use borrow.Author.Tests.{lt-ltb}
 use Rattle.refusal.specs.declared.Reason.{Reason}
 use Rattle.refusal.specs.declared.Reason.the-variants.{Groups, Edition, Goal, Jobs, Job, Opening, LeftOver}
@@ -20,7 +18,7 @@ use Rattle.fields.proofs.Tables.{all-tabulate}
 use Rattle.plan.specs.declared.Plan.{Plan}
 use Rattle.plan.specs.Record.{fresh, job, jobList, Valid}
 use Rattle.plan.specs.Reading.{order, plan, planOf, cleared}
-use Rattle.plan.specs.Writing.{message, allFresh, judge}
+use Rattle.plan.specs.Writing.{message, judge}
 use Rattle.formats.proofs.Verdicts.{judged-accepts}
 use Rattle.formats.proofs.Formats.{Format}
 use Rattle.formats.proofs.Telling.{rejudged}

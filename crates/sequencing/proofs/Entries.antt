@@ -16,10 +16,9 @@ use Rattle.sequencing.specs.States.{complete, allLeft, IsLeft, IsPair}
 use Rattle.sequencing.specs.Least.{least, argLeast}
 use Rattle.sequencing.specs.Recursion.{permit, step, value, choice, planCost}
 use Rattle.sequencing.specs.Entries.{index, digits, stride, block, entries, number, entryKind, entryLeft, entry}
-use Rattle.sequencing.proofs.Vectors.{at-in}
 use Rattle.sequencing.proofs.AllJobs.{length-all, all-left, below-all}
 use Rattle.sequencing.proofs.JobsLeft.{next-pair}
-use Rattle.sequencing.proofs.Radix.{size-pos, index-in, digits-index, index-digits, digits-length, digits-le, index-complete, stride-pos}
+use Rattle.sequencing.proofs.Radix.{size-pos, index-in, digits-index, index-digits, digits-length, digits-le, index-complete}
 use Rattle.sequencing.proofs.Equations.{value-none-left, value-some-left, plan-some-left}
 
 module _ (P : Problem) where

@@ -5,7 +5,7 @@ use queue::Queue;
 ghost use mathlib.Core.Path.{_≡_};
 ghost use mathlib.Core.Option.{none};
 ghost use Prim.Native.Nat.{ℕ, _+_, _-_, _≤_, _<_};
-ghost use lib.ListN.{length, getD, set, take};
+ghost use lib.ListN.{length, getD, set};
 ghost use Rattle.fields.specs.Lists.{filled};
 ghost use Rattle.queue.specs.Record.{Valid};
 ghost use Rattle.sequencing.specs.Lists.{at, sum};
