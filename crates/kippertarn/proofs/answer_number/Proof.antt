@@ -1,11 +1,12 @@
 -- `kippertarn::answer_number` meets its contract, case by case.
 -- Assumes nothing.
+use native.Mathlib.Omega.{arith}
 use borrow.Author.Needs.{needs}
 use Rattle.kippertarn.proofs.answer_number.Statement.{statement}
 use Rattle.kippertarn.proofs.answer_number.Tie as tie
 
 mul-result : tie.Need-mul-result
-mul-result c = record { fits = rw (c .before .answer .given .1) at (c .before .before .before .pre) }
+mul-result c = let h = rw (c .before .answer .given .1) at (c .before .before .before .pre) in record { fits = omega arith }
 
 refusal-number-requires : tie.Need-refusal-number-requires
 refusal-number-requires c κs = rw (c .before .answer2 .given .1) at (c .before .before .before .pre)

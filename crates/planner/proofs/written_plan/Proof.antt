@@ -8,7 +8,7 @@ use Rattle.planner.proofs.written_plan.Statement.{statement}
 use Rattle.planner.proofs.written_plan.Tie as tie
 
 slice-aggregate-result : tie.Need-slice-aggregate-result
-slice-aggregate-result c = sym (length-take-le _ _ (c .before .if1 .taken))
+slice-aggregate-result c = sym (length-take-le _ _ (omega arith))
 
 returns-2 : tie.Need-returns-2
 returns-2 c = sym (take-all (c .before .args .bytes) (c .before .args .buffer .now) (omega arith))
