@@ -16,9 +16,6 @@ Inv-loop values count value k₀ k = Seeking (take count values) value k
 abbrev μ-loop : tie.MeasureT-loop
 μ-loop values count value k₀ k = count - k
 
-loop-holds : tie.Need-loop-holds Inv-loop μ-loop
-loop-holds c = seek-none
-
 -- the value compared is the next one
 abbrev turn : tie.After-shared-slice-known Inv-loop μ-loop → tie.In-loop Inv-loop μ-loop
 turn c = c .before .before
@@ -38,14 +35,8 @@ returns c =
     let start = c .before .before .before in
     seek-done (c .before .before .loop .inv) (omega (arith, length-take (start .args .count) (start .args .values .now)))
 
-cast-if2 : tie.Need-cast-if2 Inv-loop μ-loop
-cast-if2 c = omega (arith, c .shared-slice-known .given (turn c .before .loop .k))
-
 returns-2 : tie.Need-returns-2 Inv-loop μ-loop
 returns-2 c = let read = c .before in seek-here (turn read .before .loop .inv) _ (within read) (next read) (c .if2 .taken)
-
-loop-less : tie.Need-loop-less Inv-loop μ-loop
-loop-less c = omega arith
 
 loop-again : tie.Need-loop-again Inv-loop μ-loop
 loop-again c = let read = c .before in seek-more (turn read .before .loop .inv) _ (within read) (next read) (c .if2 .left)
@@ -57,16 +48,6 @@ returns-3 c =
 
 pub stands-in-spec : {M : Type 1} → statement M
 stands-in-spec =
-    tie.close
-    (tie.spec
-    Inv-loop
-    μ-loop
-    loop-holds
-    returns
-    (λ c. search needs)
-    cast-if2
-    returns-2
-    (λ c. search needs)
-    loop-less
-    loop-again
+    tie.close (tie.spec Inv-loop μ-loop (λ c. seek-none) returns (λ c. search needs)
+    (λ c. omega (arith, c .shared-slice-known .given (turn c .before .loop .k))) returns-2 (λ c. search needs) (λ c. omega arith) loop-again
     returns-3)

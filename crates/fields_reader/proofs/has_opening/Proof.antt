@@ -12,27 +12,11 @@ long c = c .before .before .before
 abbrev first : tie.Else3 → tie.Else2
 first c = c .before .before .before
 
-returns : tie.Need-returns
-returns c = opens-short _ _ _ (c .if1 .taken)
-
-returns-2 : tie.Need-returns-2
-returns-2 c = opens-first _ _ _ (c .before .before .before .if1 .left) (c .if2 .taken)
-
 returns-3 : tie.Need-returns-3
 returns-3 c = let equal = c .before .before .before in opens-second _ _ _ (long equal .if1 .left) (equal .if2 .left) (c .if3 .taken)
 
-returns-4 : tie.Need-returns-4
-returns-4 c = opens-both _ _ _ (long (first c) .if1 .left) (first c .if2 .left) (c .if3 .left)
-
 pub has-opening-spec : {M : Type 1} → statement M
 has-opening-spec =
-    tie.close
-    (tie.spec
-    returns
-    (λ c. search needs)
-    (λ c. search needs)
-    returns-2
-    (λ c. search needs)
-    (λ c. search needs)
-    returns-3
-    returns-4)
+    tie.close (tie.spec (λ c. opens-short _ _ _ (c .if1 .taken)) (λ c. search needs) (λ c. search needs)
+    (λ c. opens-first _ _ _ (c .before .before .before .if1 .left) (c .if2 .taken)) (λ c. search needs) (λ c. search needs) returns-3
+    (λ c. opens-both _ _ _ (long (first c) .if1 .left) (first c .if2 .left) (c .if3 .left)))

@@ -17,9 +17,6 @@ Inv-loop bytes at count low high why out₀ from i₀ k₀ out i k = Running (fi
 abbrev μ-loop : tie.MeasureT-loop
 μ-loop bytes at count low high why out₀ from i₀ k₀ out i k = count - k
 
-loop-holds : tie.Need-loop-holds Inv-loop μ-loop
-loop-holds c = run-none
-
 -- the turn in which a number was read, or refused
 abbrev turn : tie.After-value Inv-loop μ-loop → tie.In-loop Inv-loop μ-loop
 turn c = c .before .before .before
@@ -41,46 +38,16 @@ cast-out c =
     let ok = field-found 3 (within (args .low) (args .high)) (args .why) _ _ _ _ (value-found known) .1 in
     omega (arith, within-true (args .low) (args .high) (known .value .given .0 .0) ok .1, entry known .pre .1)
 
-slice-write-out : tie.Need-slice-write-out Inv-loop μ-loop
-slice-write-out c = omega (arith, turn (c .before) .before .loop .inv .long)
-
-same-length : tie.Need-same-length Inv-loop μ-loop
-same-length c = last (c .before) .before .loop .inv .long
-
 returns : tie.Need-returns Inv-loop μ-loop
 returns c =
     let known = c .before in
     run-stop (last known .before .loop .inv) _ (last known .loop-test .taken) (as-refused _ _ (sym (known .before .before .read-field .ensures) ∙ known .reason .given .1))
 
-loop-less : tie.Need-loop-less Inv-loop μ-loop
-loop-less c = omega arith
-
 loop-again : tie.Need-loop-again Inv-loop μ-loop
 loop-again c = let known = c .before in run-more (turn known .before .loop .inv) _ _ (turn known .loop-test .taken) (value-found known)
 
-same-length-2 : tie.Need-same-length-2 Inv-loop μ-loop
-same-length-2 c = c .before .loop .inv .long
-
-returns-2 : tie.Need-returns-2 Inv-loop μ-loop
-returns-2 c = run-done (c .before .loop .inv) (c .loop-test .left)
-
 pub read-byte-run-spec : {M : Type 1} → statement M
 read-byte-run-spec =
-    tie.close
-    (tie.spec
-    Inv-loop
-    μ-loop
-    loop-holds
-    (λ c κs. search needs)
-    (λ c. search needs)
-    cast-out
-    (λ c. search needs)
-    slice-write-out
-    (λ c. search needs)
-    same-length
-    returns
-    (λ c. search needs)
-    loop-less
-    loop-again
-    same-length-2
-    returns-2)
+    tie.close (tie.spec Inv-loop μ-loop (λ c. run-none) (λ c κs. search needs) (λ c. search needs) cast-out (λ c. search needs)
+    (λ c. omega (arith, turn (c .before) .before .loop .inv .long)) (λ c. search needs) (λ c. last (c .before) .before .loop .inv .long) returns
+    (λ c. search needs) (λ c. omega arith) loop-again (λ c. c .before .loop .inv .long) (λ c. run-done (c .before .loop .inv) (c .loop-test .left)))

@@ -30,14 +30,8 @@ inside c = sym (c .before .is-within .ensures) ∙ not-false _ (c .if1 .left)
 outside : (c : tie.Then1) → let call = c .before in within (entry call .args .low) (entry call .args .high) (read call .value .given .0 .0) ≡ false
 outside c = sym (c .before .is-within .ensures) ∙ not-true _ (c .if1 .taken)
 
-returns : tie.Need-returns
-returns c = rw (number-found (c .before), outside c)
-
 cast-t15 : tie.Need-cast-t15
 cast-t15 c = let call = c .before in omega (arith, within-true (entry call .args .low) (entry call .args .high) (read call .value .given .0 .0) (inside c) .1)
-
-returns-2 : tie.Need-returns-2
-returns-2 c = rw (number-found (c .before), inside c)
 
 returns-3 : tie.Need-returns-3
 returns-3 c =
@@ -47,13 +41,5 @@ returns-3 c =
 
 pub read-field-spec : {M : Type 1} → statement M
 read-field-spec =
-    tie.close
-    (tie.spec
-    (λ c κs. search needs)
-    (λ c. search needs)
-    (λ c κs. search needs)
-    returns
-    cast-t15
-    (λ c. search needs)
-    returns-2
-    returns-3)
+    tie.close (tie.spec (λ c κs. search needs) (λ c. search needs) (λ c κs. search needs) (λ c. rw (number-found (c .before), outside c)) cast-t15
+    (λ c. search needs) (λ c. rw (number-found (c .before), inside c)) returns-3)

@@ -18,9 +18,6 @@ Inv-loop buffer₀ at values from count i₀ k₀ buffer i k = Writing encode (p
 abbrev μ-loop : tie.MeasureT-loop
 μ-loop buffer₀ at values from count i₀ k₀ buffer i k = count - k
 
-loop-holds : tie.Need-loop-holds Inv-loop μ-loop
-loop-holds c = writing-none (part-length _ _ _ (c .before .before .pre .0))
-
 -- the value that is written is the next one
 abbrev turn : tie.After-wide Inv-loop μ-loop → tie.In-loop Inv-loop μ-loop
 turn c = c .before .before .before
@@ -34,35 +31,14 @@ next c = part-at (entry c .args .values .now) (entry c .args .from) (entry c .ar
 write-number-requires : tie.Need-write-number-requires Inv-loop μ-loop
 write-number-requires c κs = writing-room (turn c .before .loop .inv) 0 _ (turn c .loop-test .taken) (next c) (entry c .pre .1)
 
-loop-less : tie.Need-loop-less Inv-loop μ-loop
-loop-less c = omega arith
-
 loop-again : tie.Need-loop-again Inv-loop μ-loop
 loop-again c =
     let call = c .before .before in
     let read = call .before in
     rw (call .write-number .ensures .0, call .write-number .ensures .1) (writing-more (turn read .before .loop .inv) 0 _ (turn read .loop-test .taken) (next read))
 
-same-length : tie.Need-same-length Inv-loop μ-loop
-same-length c = c .before .loop .inv .long
-
-returns : tie.Need-returns Inv-loop μ-loop
-returns c = writing-done (c .before .loop .inv) (c .loop-test .left)
-
 pub write-run-spec : {M : Type 1} → statement M
 write-run-spec =
-    tie.close
-    (tie.spec
-    Inv-loop
-    μ-loop
-    loop-holds
-    (λ c. search needs)
-    (λ c. search needs)
-    (λ c. search needs)
-    (λ c κs. search needs)
-    write-number-requires
-    (λ c. search needs)
-    loop-less
-    loop-again
-    same-length
-    returns)
+    tie.close (tie.spec Inv-loop μ-loop (λ c. writing-none (part-length _ _ _ (c .before .before .pre .0))) (λ c. search needs) (λ c. search needs)
+    (λ c. search needs) (λ c κs. search needs) write-number-requires (λ c. search needs) (λ c. omega arith) loop-again
+    (λ c. c .before .loop .inv .long) (λ c. writing-done (c .before .loop .inv) (c .loop-test .left)))

@@ -6,16 +6,7 @@ use borrow.Author.Needs.{needs}
 use Rattle.filling.proofs.counted.Statement.{statement}
 use Rattle.filling.proofs.counted.Tie as tie
 
-returns : tie.Need-returns
-returns c = rw (c .if1 .taken) (omega arith)
-
-returns-2 : tie.Need-returns-2
-returns-2 c = rw (ne-eqb (c .before .args .value) 18446744073709551615 (c .if1 .left))
-
 pub counted-spec : {M : Type 1} → statement M
 counted-spec =
-    tie.close
-    (tie.spec
-    (λ c. search needs)
-    returns
-    returns-2)
+    tie.close (tie.spec (λ c. search needs) (λ c. rw (c .if1 .taken) (omega arith))
+    (λ c. rw (ne-eqb (c .before .args .value) 18446744073709551615 (c .if1 .left))))

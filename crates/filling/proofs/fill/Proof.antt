@@ -42,15 +42,6 @@ given c = record { valid = c .pre .0; prepared = c .pre .1 .0; room = c .pre .1 
 look : (c : tie.Then1 Inv-loop μ-loop) → Look (copied (loop c .before) .args .queue) (copied (loop c .before) .args .layout) (loop c .loop .table) (loop c .loop .left) (loop c .loop .k .index)
 look c = looking (given (copied (loop c .before))) (loop c .loop .inv) (c .if1 .taken)
 
-loop-holds : tie.Need-loop-holds Inv-loop μ-loop
-loop-holds c = upto-none (given (copied c))
-
-slice-aggregate-fill-states : tie.Need-slice-aggregate-fill-states Inv-loop μ-loop
-slice-aggregate-fill-states c = sym (look (lent c) .left-at .long)
-
-slice-aggregate-fill-states-2 : tie.Need-slice-aggregate-fill-states-2 Inv-loop μ-loop
-slice-aggregate-fill-states-2 c = let s = look (lent (c .before)) in sym (strides-long (s .valid) (s .prepared))
-
 slice-aggregate-fill-states-3 : tie.Need-slice-aggregate-fill-states-3 Inv-loop μ-loop
 slice-aggregate-fill-states-3 c = let s = look (lent (c .before .before)) in sym (slots-long (s .valid) (s .prepared))
 
@@ -60,9 +51,6 @@ slice-aggregate-fill-states-4 c = let s = look (lent (c .before .before .before)
 slice-aggregate-fill-states-5 : tie.Need-slice-aggregate-fill-states-5 Inv-loop μ-loop
 slice-aggregate-fill-states-5 c = let s = look (lent (c .before .before .before .before)) in sym (latest-long (s .valid) (s .prepared))
 
-slice-aggregate-fill-states-6 : tie.Need-slice-aggregate-fill-states-6 Inv-loop μ-loop
-slice-aggregate-fill-states-6 c = sym (look (lent (c .before .before .before .before .before)) .gaps-long)
-
 fill-states-requires : tie.Need-fill-states-requires Inv-loop μ-loop
 fill-states-requires c κs = let t = lent (c .before .before .before .before .before) in fillable _ (look t) (loop t .loop .inv .summed)
 
@@ -70,9 +58,6 @@ add-feasible : tie.Need-add-feasible Inv-loop μ-loop
 add-feasible c =
     let t = turn (c .before .before) in
     record { fits = count-fits (given (copied (loop t .before))) (loop t .loop .inv) (t .if1 .taken) (c .before .before .fill-states .ensures) }
-
-slice-aggregate-step-left : tie.Need-slice-aggregate-step-left Inv-loop μ-loop
-slice-aggregate-step-left c = sym (look (turn (filled c)) .left-at .long)
 
 slice-aggregate-step-left-2 : tie.Need-slice-aggregate-step-left-2 Inv-loop μ-loop
 slice-aggregate-step-left-2 c = let s = look (turn (filled (c .before))) in sym (counts-long (s .valid) (s .prepared))
@@ -95,24 +80,8 @@ returns c = let s = c .before .before .before in upto-done (given (copied (s .be
 
 pub fill-spec : {M : Type 1} → statement M
 fill-spec =
-    tie.close
-    (tie.spec
-    Inv-loop
-    μ-loop
-    loop-holds
-    slice-aggregate-fill-states
-    slice-aggregate-fill-states-2
-    slice-aggregate-fill-states-3
-    slice-aggregate-fill-states-4
-    slice-aggregate-fill-states-5
-    slice-aggregate-fill-states-6
-    fill-states-requires
-    add-feasible
-    slice-aggregate-step-left
-    slice-aggregate-step-left-2
-    slice-aggregate-step-left-3
-    step-left-requires
-    (λ c. search needs)
-    loop-again
-    (λ c. search needs)
-    returns)
+    tie.close (tie.spec Inv-loop μ-loop (λ c. upto-none (given (copied c))) (λ c. sym (look (lent c) .left-at .long))
+    (λ c. let s = look (lent (c .before)) in sym (strides-long (s .valid) (s .prepared))) slice-aggregate-fill-states-3 slice-aggregate-fill-states-4
+    slice-aggregate-fill-states-5 (λ c. sym (look (lent (c .before .before .before .before .before)) .gaps-long)) fill-states-requires add-feasible
+    (λ c. sym (look (turn (filled c)) .left-at .long)) slice-aggregate-step-left-2 slice-aggregate-step-left-3 step-left-requires (λ c. search needs)
+    loop-again (λ c. search needs) returns)

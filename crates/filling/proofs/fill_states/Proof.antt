@@ -36,9 +36,6 @@ loaded c = record { fillable = entry c .pre; next-is = c .load-next .ensures; we
 abbrev turn : tie.After-shared-slice-known10 Inv-loop μ-loop → tie.In-loop Inv-loop μ-loop
 turn c = c .before .before .before .before .before
 
-loop-holds : tie.Need-loop-holds Inv-loop μ-loop
-loop-holds c = kinds-none
-
 -- the slot of the kind's job just cut
 in-slot : (c : tie.In-loop Inv-loop μ-loop) → let a : Arrays = args (c .before .before) in
     let slot : ℕ = getD (a .slots) (c .before .loop .kind) 0 + getD (a .left) (c .before .loop .kind) 0 in
@@ -49,33 +46,9 @@ in-slot c = entry (c .before .before) .pre .slot-in (suc (c .before .loop .kind)
 in-table : (c : tie.In-loop Inv-loop μ-loop) → c .before .loop .kind * entry (c .before .before) .args .size .block + entry (c .before .before) .args .k .index < length (c .before .loop .table)
 in-table c = entry-in (loaded (c .before .before)) (c .before .loop .inv) (c .loop-test .taken)
 
-cast-slot : tie.Need-cast-slot Inv-loop μ-loop
-cast-slot c = omega (arith, in-slot (c .before .before))
-
-add-slot : tie.Need-add-slot Inv-loop μ-loop
-add-slot c = omega (arith, in-slot (c .before .before))
-
-shared-slice-read-state-value : tie.Need-shared-slice-read-state-value Inv-loop μ-loop
-shared-slice-read-state-value c = in-slot (c .before .before .before .before) .0
-
-shared-slice-read-state-value-2 : tie.Need-shared-slice-read-state-value-2 Inv-loop μ-loop
-shared-slice-read-state-value-2 c = in-slot (turn c) .1
-
 state-value-requires : tie.Need-state-value-requires Inv-loop μ-loop
 state-value-requires c κs =
     state-ready (loaded (turn c .before .before)) (turn c .before .loop .kind + 1) (omega arith) (omega (arith, turn c .loop-test .taken))
-
-mul-table : tie.Need-mul-table Inv-loop μ-loop
-mul-table c = omega (arith, in-table (turn (c .before)))
-
-add-table : tie.Need-add-table Inv-loop μ-loop
-add-table c = omega (arith, in-table (turn (c .before)))
-
-mul-table-2 : tie.Need-mul-table-2 Inv-loop μ-loop
-mul-table-2 c = omega (arith, in-table (turn (c .before)))
-
-slice-write-table : tie.Need-slice-write-table Inv-loop μ-loop
-slice-write-table c = in-table (turn (c .before))
 
 loop-again : tie.Need-loop-again Inv-loop μ-loop
 loop-again c =
@@ -87,32 +60,9 @@ returns c = kinds-done (loaded (c .before .before)) (c .before .loop .inv) (c .l
 
 pub fill-states-spec : {M : Type 1} → statement M
 fill-states-spec =
-    tie.close
-    (tie.spec
-    Inv-loop
-    μ-loop
-    (λ c κs. search needs)
-    (λ c. search needs)
-    (λ c κs. search needs)
-    loop-holds
-    (λ c. search needs)
-    (λ c. search needs)
-    (λ c. search needs)
-    (λ c. search needs)
-    cast-slot
-    add-slot
-    (λ c. search needs)
-    (λ c. search needs)
-    shared-slice-read-state-value
-    shared-slice-read-state-value-2
-    state-value-requires
-    mul-table
-    add-table
-    mul-table-2
-    slice-write-table
-    (λ c κs. search needs)
-    (λ c. search needs)
-    (λ c. search needs)
-    loop-again
-    (λ c. search needs)
-    returns)
+    tie.close (tie.spec Inv-loop μ-loop (λ c κs. search needs) (λ c. search needs) (λ c κs. search needs) (λ c. kinds-none) (λ c. search needs)
+    (λ c. search needs) (λ c. search needs) (λ c. search needs) (λ c. omega (arith, in-slot (c .before .before)))
+    (λ c. omega (arith, in-slot (c .before .before))) (λ c. search needs) (λ c. search needs) (λ c. in-slot (c .before .before .before .before) .0)
+    (λ c. in-slot (turn c) .1) state-value-requires (λ c. omega (arith, in-table (turn (c .before))))
+    (λ c. omega (arith, in-table (turn (c .before)))) (λ c. omega (arith, in-table (turn (c .before)))) (λ c. in-table (turn (c .before)))
+    (λ c κs. search needs) (λ c. search needs) (λ c. search needs) loop-again (λ c. search needs) returns)

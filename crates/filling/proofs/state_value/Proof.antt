@@ -5,12 +5,6 @@ use borrow.Author.Needs.{needs}
 use Rattle.filling.proofs.state_value.Statement.{statement}
 use Rattle.filling.proofs.state_value.Tie as tie
 
-returns : tie.Need-returns
-returns c = rw (lt-leb _ _ (c .if1 .taken))
-
-returns-2 : tie.Need-returns-2
-returns-2 c = rw (le-leb _ _ (c .before .if1 .left), lt-leb _ _ (c .if2 .taken))
-
 returns-3 : tie.Need-returns-3
 returns-3 c = rw (le-leb _ _ (c .before .before .if1 .left), le-leb _ _ (c .before .if2 .left), eq-eqb _ _ (c .if3 .taken))
 
@@ -19,10 +13,5 @@ returns-4 c = rw (le-leb _ _ (c .before .before .before .if1 .left), le-leb _ _ 
 
 pub state-value-spec : {M : Type 1} → statement M
 state-value-spec =
-    tie.close
-    (tie.spec
-    returns
-    returns-2
-    returns-3
-    (λ c κs. search needs)
-    returns-4)
+    tie.close (tie.spec (λ c. rw (lt-leb _ _ (c .if1 .taken))) (λ c. rw (le-leb _ _ (c .before .if1 .left), lt-leb _ _ (c .if2 .taken))) returns-3
+    (λ c κs. search needs) returns-4)

@@ -41,14 +41,8 @@ light t = some-weight (long (turn t)) (turn t .loop .inv .1) _ (t .loop-test .ta
 loop-holds : tie.Need-loop-holds Inv-loop μ-loop
 loop-holds c = (stepping-none, record { sums = c .before .pre .1 .1 .1 .1 .0; fewer = omega arith; lighter = omega arith })
 
-cast-w : tie.Need-cast-w Inv-loop μ-loop
-cast-w c = omega (arith, c .shared-slice-known .given (turn (c .before .before) .loop .j))
-
 add-left : tie.Need-add-left Inv-loop μ-loop
 add-left c = omega (arith, c .before .shared-slice-known2 .given (turn (read (c .before)) .loop .j))
-
-add-t18 : tie.Need-add-t18 Inv-loop μ-loop
-add-t18 c = omega (arith, small (turn (read (c .before))))
 
 add-t21 : tie.Need-add-t21 Inv-loop μ-loop
 add-t21 c = omega (arith, small (turn (read (c .before))), c .before .before .shared-slice-known .given (turn (read (c .before)) .loop .j))
@@ -58,18 +52,6 @@ returns c =
     let t = read (c .before) in
     let out = stepping-out (omega arith) (omega arith) (turn t .loop .inv .0) (t .loop-test .taken) (c .if1 .taken) in
     (out .0, (out .1, (carried-out (long (turn t)) (turn t .loop .inv .1) _ (t .loop-test .taken), search needs)))
-
-sub-jobs : tie.Need-sub-jobs Inv-loop μ-loop
-sub-jobs c = few (read (c .before))
-
-cast-weight : tie.Need-cast-weight Inv-loop μ-loop
-cast-weight c = let t = read (c .before) in omega (arith, few t, small (turn t))
-
-mul-weight : tie.Need-mul-weight Inv-loop μ-loop
-mul-weight c = let t = read (c .before) in omega (arith, light t, small (turn t))
-
-sub-weight : tie.Need-sub-weight Inv-loop μ-loop
-sub-weight c = light (read (c .before))
 
 loop-again : tie.Need-loop-again Inv-loop μ-loop
 loop-again c =
@@ -83,34 +65,9 @@ returns-2 c =
 
 pub step-left-spec : {M : Type 1} → statement M
 step-left-spec =
-    tie.close
-    (tie.spec
-    Inv-loop
-    μ-loop
-    (λ c. search needs)
-    loop-holds
-    (λ c. search needs)
-    (λ c. search needs)
-    (λ c. search needs)
-    (λ c. search needs)
-    cast-w
-    (λ c. search needs)
-    (λ c. search needs)
-    add-left
-    (λ c. search needs)
-    (λ c. search needs)
-    add-t18
-    add-t21
-    (λ c. search needs)
-    returns
-    sub-jobs
-    cast-weight
-    mul-weight
-    sub-weight
-    (λ c. search needs)
-    (λ c. search needs)
-    (λ c. search needs)
-    (λ c. search needs)
-    loop-again
-    (λ c. search needs)
-    returns-2)
+    tie.close (tie.spec Inv-loop μ-loop (λ c. search needs) loop-holds (λ c. search needs) (λ c. search needs) (λ c. search needs) (λ c. search needs)
+    (λ c. omega (arith, c .shared-slice-known .given (turn (c .before .before) .loop .j))) (λ c. search needs) (λ c. search needs) add-left
+    (λ c. search needs) (λ c. search needs) (λ c. omega (arith, small (turn (read (c .before))))) add-t21 (λ c. search needs) returns
+    (λ c. few (read (c .before))) (λ c. let t = read (c .before) in omega (arith, few t, small (turn t)))
+    (λ c. let t = read (c .before) in omega (arith, light t, small (turn t))) (λ c. light (read (c .before))) (λ c. search needs) (λ c. search needs)
+    (λ c. search needs) (λ c. search needs) loop-again (λ c. search needs) returns-2)

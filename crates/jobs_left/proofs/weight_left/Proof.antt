@@ -20,15 +20,6 @@ entry t = t .before .before
 abbrev turn : tie.After-shared-slice-known2 Inv-loop μ-loop → tie.In-loop Inv-loop μ-loop
 turn c = c .before .before
 
-loop-holds : tie.Need-loop-holds Inv-loop μ-loop
-loop-holds c = weighing-none
-
-cast-total : tie.Need-cast-total Inv-loop μ-loop
-cast-total c = omega (arith, c .shared-slice-known .given (c .before .before .loop .j))
-
-cast-total-2 : tie.Need-cast-total-2 Inv-loop μ-loop
-cast-total-2 c = omega (arith, c .shared-slice-known2 .given (turn c .before .loop .j))
-
 mul-total-3 : tie.Need-mul-total-3 Inv-loop μ-loop
 mul-total-3 c = let t = turn c in record { fits = one-fits (t .before .loop .inv) (t .loop-test .taken) (entry t .pre .1 .1 .1) }
 
@@ -38,25 +29,9 @@ add-total c = let t = turn c in record { fits = weighing-fits (t .before .loop .
 loop-again : tie.Need-loop-again Inv-loop μ-loop
 loop-again c = let t = turn c in weighing-more (t .before .loop .inv) (t .loop-test .taken) (entry t .pre .1 .1 .1) (omega arith)
 
-returns : tie.Need-returns Inv-loop μ-loop
-returns c = front-done _ _ _ _ _ _ (c .before .loop .inv .front) (c .loop-test .left)
-
 pub weight-left-spec : {M : Type 1} → statement M
 weight-left-spec =
-    tie.close
-    (tie.spec
-    Inv-loop
-    μ-loop
-    loop-holds
-    (λ c. search needs)
-    (λ c. search needs)
-    cast-total
-    (λ c. search needs)
-    (λ c. search needs)
-    cast-total-2
-    mul-total-3
-    add-total
-    (λ c. search needs)
-    (λ c. search needs)
-    loop-again
-    returns)
+    tie.close (tie.spec Inv-loop μ-loop (λ c. weighing-none) (λ c. search needs) (λ c. search needs)
+    (λ c. omega (arith, c .shared-slice-known .given (c .before .before .loop .j))) (λ c. search needs) (λ c. search needs)
+    (λ c. omega (arith, c .shared-slice-known2 .given (turn c .before .loop .j))) mul-total-3 add-total (λ c. search needs) (λ c. search needs)
+    loop-again (λ c. front-done _ _ _ _ _ _ (c .before .loop .inv .front) (c .loop-test .left)))

@@ -8,22 +8,8 @@ use Rattle.kippertarn.proofs.answer_number.Tie as tie
 mul-result : tie.Need-mul-result
 mul-result c = let h = rw (c .before .answer .given .1) at (c .before .before .before .pre) in record { fits = omega arith }
 
-refusal-number-requires : tie.Need-refusal-number-requires
-refusal-number-requires c κs = rw (c .before .answer2 .given .1) at (c .before .before .before .pre)
-
-returns : tie.Need-returns
-returns c = rw (c .before .answer .given .1)
-
-returns-2 : tie.Need-returns-2
-returns-2 c = rw (c .before .before .answer2 .given .1) (c .refusal-number .ensures)
-
 pub answer-number-spec : {M : Type 1} → statement M
 answer-number-spec =
-    tie.close
-    (tie.spec
-    (λ c. search needs)
-    mul-result
-    (λ c. search needs)
-    refusal-number-requires
-    returns
-    returns-2)
+    tie.close (tie.spec (λ c. search needs) mul-result (λ c. search needs)
+    (λ c κs. rw (c .before .answer2 .given .1) at (c .before .before .before .pre)) (λ c. rw (c .before .answer .given .1))
+    (λ c. rw (c .before .before .answer2 .given .1) (c .refusal-number .ensures)))

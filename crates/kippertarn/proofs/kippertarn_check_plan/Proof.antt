@@ -8,16 +8,9 @@ use borrow.Author.Needs.{needs}
 use Rattle.kippertarn.proofs.kippertarn_check_plan.Statement.{statement}
 use Rattle.kippertarn.proofs.kippertarn_check_plan.Tie as tie
 
-verdict-number-requires : tie.Need-verdict-number-requires
-verdict-number-requires c κs = rw (c .read-plan .ensures) (plan-number (c .before .before .args .message .now))
-
 returns : tie.Need-returns
 returns c = c .verdict-number .ensures ∙ ap (λ (r : Reading). verdictNumber (r .verdict)) (c .before .read-plan .ensures)
 
 pub kippertarn-check-plan-spec : {M : Type 1} → statement M
 kippertarn-check-plan-spec =
-    tie.close
-    (tie.spec
-    (λ c κs. search needs)
-    verdict-number-requires
-    returns)
+    tie.close (tie.spec (λ c κs. search needs) (λ c κs. rw (c .read-plan .ensures) (plan-number (c .before .before .args .message .now))) returns)

@@ -16,8 +16,4 @@ returns c = c .verdict-number .ensures ∙ ap (λ (r : Reading). verdictNumber (
 
 pub kippertarn-check-queue-spec : {M : Type 1} → statement M
 kippertarn-check-queue-spec =
-    tie.close
-    (tie.spec
-    (λ c κs. search needs)
-    verdict-number-requires
-    returns)
+    tie.close (tie.spec (λ c κs. search needs) verdict-number-requires returns)

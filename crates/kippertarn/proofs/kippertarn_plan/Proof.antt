@@ -25,10 +25,4 @@ returns c =
 
 pub kippertarn-plan-spec : {M : Type 1} → statement M
 kippertarn-plan-spec =
-    tie.close
-    (tie.spec
-    (λ c κs. search needs)
-    answer-number-requires
-    (λ c. search needs)
-    (λ c. search needs)
-    returns)
+    tie.close (tie.spec (λ c κs. search needs) answer-number-requires (λ c. search needs) (λ c. search needs) returns)

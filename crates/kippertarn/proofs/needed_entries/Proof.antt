@@ -17,9 +17,6 @@ use Rattle.kippertarn.proofs.needed_entries.Tie as tie
 abbrev others : List ℕ
 others = 0 ∷ 1 ∷ 2 ∷ 3 ∷ 4 ∷ 5 ∷ 6 ∷ 7 ∷ 8 ∷ 9 ∷ 10 ∷ 11 ∷ 12 ∷ 13 ∷ 14 ∷ 16 ∷ 17 ∷ []
 
-returns : tie.Need-returns
-returns c = rw (c .before .reason .given .1)
-
 returns-2 : tie.Need-returns-2
 returns-2 c = go (c .before .args .reason) (c .match .keys2)
   where
@@ -45,8 +42,4 @@ returns-2 c = go (c .before .args .reason) (c .match .keys2)
 
 pub needed-entries-spec : {M : Type 1} → statement M
 needed-entries-spec =
-    tie.close
-    (tie.spec
-    (λ c. search needs)
-    returns
-    returns-2)
+    tie.close (tie.spec (λ c. search needs) (λ c. rw (c .before .reason .given .1)) returns-2)

@@ -37,20 +37,11 @@ fits : (c : tie.In-loop Inv-loop μ-loop)
     → c .before .loop .at + length (ofKind (at-entry (c .before) .args .queue .«job_kinds») (at-entry (c .before) .args .queue .jobs) (c .before .loop .kind + 1)) ≤ 60
 fits c = counting-fits (at-entry (c .before) .args .queue) (c .before .loop .inv) (at-entry (c .before) .pre .0) (c .loop-test .taken)
 
-loop-holds : tie.Need-loop-holds Inv-loop μ-loop
-loop-holds c = counting-none
-
 list-kind-requires : tie.Need-list-kind-requires Inv-loop μ-loop
 list-kind-requires c κs =
     let entry = at-entry (c .before .before .before) in
     let long = c .before .before .before .loop .inv .listing .long in
     (omega (arith, entry .pre .0 .jobs, sixty entry), entry .pre .0 .jobs, omega (arith, fits (c .before .before), entry .pre .2))
-
-cast-begins : tie.Need-cast-begins Inv-loop μ-loop
-cast-begins c = omega (arith, fits (at-test c))
-
-cast-counts : tie.Need-cast-counts Inv-loop μ-loop
-cast-counts c = omega (arith, fits (at-test c), c .before .before .list-kind .ensures .0)
 
 loop-again : tie.Need-loop-again Inv-loop μ-loop
 loop-again c = counting-more (at-test c .before .loop .inv) (at-test c .loop-test .taken) _ _ (c .before .before .list-kind .ensures .0) (c .before .before .list-kind .ensures .1)
@@ -60,28 +51,7 @@ returns c = counting-done (at-entry (c .before) .args .queue) (c .before .loop .
 
 pub list-jobs-spec : {M : Type 1} → statement M
 list-jobs-spec =
-    tie.close
-    (tie.spec
-    Inv-loop
-    μ-loop
-    (λ c. search needs)
-    (λ c. search needs)
-    loop-holds
-    (λ c. search needs)
-    (λ c. search needs)
-    (λ c. search needs)
-    list-kind-requires
-    cast-begins
-    (λ c. search needs)
-    (λ c. search needs)
-    (λ c. search needs)
-    cast-counts
-    (λ c. search needs)
-    (λ c. search needs)
-    (λ c. search needs)
-    (λ c. search needs)
-    loop-again
-    (λ c. search needs)
-    (λ c. search needs)
-    (λ c. search needs)
-    returns)
+    tie.close (tie.spec Inv-loop μ-loop (λ c. search needs) (λ c. search needs) (λ c. counting-none) (λ c. search needs) (λ c. search needs)
+    (λ c. search needs) list-kind-requires (λ c. omega (arith, fits (at-test c))) (λ c. search needs) (λ c. search needs) (λ c. search needs)
+    (λ c. omega (arith, fits (at-test c), c .before .before .list-kind .ensures .0)) (λ c. search needs) (λ c. search needs) (λ c. search needs)
+    (λ c. search needs) loop-again (λ c. search needs) (λ c. search needs) (λ c. search needs) returns)

@@ -15,9 +15,6 @@ Inv-loop job-kinds total kind jobs₀ from at₀ i₀ jobs at i = Listing job-ki
 abbrev μ-loop : tie.MeasureT-loop
 μ-loop job-kinds total kind jobs₀ from at₀ i₀ jobs at i = total - i
 
-loop-holds : tie.Need-loop-holds Inv-loop μ-loop
-loop-holds c = listing-none
-
 abbrev at-loop : tie.Then1 Inv-loop μ-loop → tie.At-loop Inv-loop μ-loop
 at-loop c = c .before .before .before
 
@@ -30,26 +27,8 @@ loop-again c =
     let h = c .before .before .loop-test .taken in
     ⊎-elim (λ a. rw (a .1, a .2) (listing-same w h (a .0 .taken))) (λ a. rw (a .1, a .2) (listing-other w h (a .0 .left))) (c .if1 .came)
 
-same-length : tie.Need-same-length Inv-loop μ-loop
-same-length c = c .before .loop .inv .long
-
-returns : tie.Need-returns Inv-loop μ-loop
-returns c = listing-done (c .before .loop .inv) (c .loop-test .left)
-
 pub list-kind-spec : {M : Type 1} → statement M
 list-kind-spec =
-    tie.close
-    (tie.spec
-    Inv-loop
-    μ-loop
-    loop-holds
-    (λ c. search needs)
-    (λ c. search needs)
-    (λ c. search needs)
-    (λ c. within c)
-    (λ c. let w = within c in omega arith)
-    (λ c. search needs)
-    (λ c. search needs)
-    loop-again
-    same-length
-    returns)
+    tie.close (tie.spec Inv-loop μ-loop (λ c. listing-none) (λ c. search needs) (λ c. search needs) (λ c. search needs) (λ c. within c)
+    (λ c. let w = within c in omega arith) (λ c. search needs) (λ c. search needs) loop-again (λ c. c .before .loop .inv .long)
+    (λ c. listing-done (c .before .loop .inv) (c .loop-test .left)))

@@ -13,41 +13,14 @@ Inv-loop jobs from count slot first last max-shift earliest₀ latest₀ n₀ ea
 abbrev μ-loop : tie.MeasureT-loop
 μ-loop jobs from count slot first last max-shift earliest₀ latest₀ n₀ earliest latest n = count - n
 
-loop-holds : tie.Need-loop-holds Inv-loop μ-loop
-loop-holds c = placing-none
-
 loop-again : tie.Need-loop-again Inv-loop μ-loop
 loop-again c =
     let turn = c .before .before .before in
     placing-more (turn .before .loop .inv) _ _ (turn .loop-test .taken) (c .before .earliest-place .ensures) (c .latest-place .ensures)
 
-returns : tie.Need-returns Inv-loop μ-loop
-returns c = placing-done (c .before .loop .inv) (c .loop-test .left)
-
 pub set-kind-places-spec : {M : Type 1} → statement M
 set-kind-places-spec =
-    tie.close
-    (tie.spec
-    Inv-loop
-    μ-loop
-    loop-holds
-    (λ c. search needs)
-    (λ c. search needs)
-    (λ c. search needs)
-    (λ c. search needs)
-    (λ c κs. search needs)
-    (λ c. search needs)
-    (λ c. search needs)
-    (λ c κs. search needs)
-    (λ c. search needs)
-    (λ c. search needs)
-    (λ c. search needs)
-    (λ c. search needs)
-    loop-again
-    (λ c. search needs)
-    (λ c. search needs)
-    (λ c. search needs)
-    (λ c. search needs)
-    (λ c. search needs)
-    (λ c. search needs)
-    returns)
+    tie.close (tie.spec Inv-loop μ-loop (λ c. placing-none) (λ c. search needs) (λ c. search needs) (λ c. search needs) (λ c. search needs)
+    (λ c κs. search needs) (λ c. search needs) (λ c. search needs) (λ c κs. search needs) (λ c. search needs) (λ c. search needs) (λ c. search needs)
+    (λ c. search needs) loop-again (λ c. search needs) (λ c. search needs) (λ c. search needs) (λ c. search needs) (λ c. search needs)
+    (λ c. search needs) (λ c. placing-done (c .before .loop .inv) (c .loop-test .left)))

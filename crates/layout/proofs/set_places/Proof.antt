@@ -51,29 +51,7 @@ returns c = let pre = at-entry (c .before) .pre .0 in slotting-done (pre .0) (pr
 
 pub set-places-spec : {M : Type 1} → statement M
 set-places-spec =
-    tie.close
-    (tie.spec
-    Inv-loop
-    μ-loop
-    (λ c. search needs)
-    (λ c. slotting-none)
-    (λ c. search needs)
-    (λ c. search needs)
-    (λ c. let n = next c in omega arith)
-    (λ c. let n = next c in omega arith)
-    (λ c. search needs)
-    (λ c. search needs)
-    (λ c. search needs)
-    (λ c. search needs)
-    (λ c. let n = next c in omega arith)
-    (λ c. let n = next c in omega arith)
-    (λ c. search needs)
-    (λ c. search needs)
-    set-kind-places-requires
-    (λ c. search needs)
-    (λ c. search needs)
-    loop-again
-    (λ c. search needs)
-    (λ c. search needs)
-    (λ c. search needs)
-    returns)
+    tie.close (tie.spec Inv-loop μ-loop (λ c. search needs) (λ c. slotting-none) (λ c. search needs) (λ c. search needs)
+    (λ c. let n = next c in omega arith) (λ c. let n = next c in omega arith) (λ c. search needs) (λ c. search needs) (λ c. search needs)
+    (λ c. search needs) (λ c. let n = next c in omega arith) (λ c. let n = next c in omega arith) (λ c. search needs) (λ c. search needs)
+    set-kind-places-requires (λ c. search needs) (λ c. search needs) loop-again (λ c. search needs) (λ c. search needs) (λ c. search needs) returns)

@@ -41,20 +41,6 @@ returns c =
 
 pub set-strides-spec : {M : Type 1} → statement M
 set-strides-spec =
-    tie.close
-    (tie.spec
-    Inv-loop
-    μ-loop
-    (λ c. striding-none _ _ _)
-    (λ c. search needs)
-    (λ c. search needs)
-    (λ c. search needs)
-    (λ c. search needs)
-    (λ c. omega (arith, few c))
-    (λ c. omega (arith, few c))
-    mul-product-2
-    (λ c. search needs)
-    (λ c. search needs)
-    loop-again
-    (λ c. search needs)
+    tie.close (tie.spec Inv-loop μ-loop (λ c. striding-none _ _ _) (λ c. search needs) (λ c. search needs) (λ c. search needs) (λ c. search needs)
+    (λ c. omega (arith, few c)) (λ c. omega (arith, few c)) mul-product-2 (λ c. search needs) (λ c. search needs) loop-again (λ c. search needs)
     returns)

@@ -8,11 +8,5 @@ use Rattle.next_states.proofs.best_next.Tie as tie
 abbrev entry : tie.After-load-next → tie.Start
 entry c = c .before .before .before .before .before
 
-least-of-requires : tie.Need-least-of-requires
-least-of-requires c κs = rw (c .before .load-next .ensures) (entry (c .before) .pre .1)
-
-returns : tie.Need-returns
-returns c = rw (c .before .before .load-next .ensures) at (c .least-of .ensures)
-
 pub best-next-spec : {M : Type 1} → statement M
-best-next-spec = tie.close (tie.spec (λ c κs. search needs) (λ c. search needs) least-of-requires returns)
+best-next-spec = tie.close (tie.spec (λ c κs. search needs) (λ c. search needs) (λ c κs. rw (c .before .load-next .ensures) (entry (c .before) .pre .1)) (λ c. rw (c .before .before .load-next .ensures) at (c .least-of .ensures)))

@@ -32,9 +32,6 @@ cost : (c : tie.After-next-cost Inv-loop μ-loop) → let t = turn (looked-up c)
     c .next-cost .result ≡ stored (candidate (a .next .now) (a .gaps .now) (a .row) (a .weight) (t .loop .x + 1))
 cost c = rw add-one (rw (looked-up c .gap-after .ensures, add-one) at (c .next-cost .ensures))
 
-loop-holds : tie.Need-loop-holds Inv-loop μ-loop
-loop-holds c = lowest-none refl refl
-
 next-cost-requires : tie.Need-next-cost-requires Inv-loop μ-loop
 next-cost-requires c κs =
     let t = turn (c .before) in
@@ -47,24 +44,8 @@ loop-again c =
     lowest-more (t .before .loop .inv) (candidate-fits (entry (t .before) .pre .0)) (t .loop-test .taken)
     (rw (cost (c .before)) at (c .lower .ensures .0)) (rw (cost (c .before)) at (c .lower .ensures .1))
 
-returns : tie.Need-returns Inv-loop μ-loop
-returns c = lowest-done (c .before .loop .inv) (c .loop-test .left)
-
 pub least-of-spec : {M : Type 1} → statement M
 least-of-spec =
-    tie.close
-    (tie.spec
-    Inv-loop
-    μ-loop
-    loop-holds
-    (λ c. search needs)
-    (λ c κs. search needs)
-    (λ c. search needs)
-    (λ c. search needs)
-    next-cost-requires
-    (λ c. search needs)
-    (λ c κs. search needs)
-    (λ c. search needs)
-    (λ c. search needs)
-    loop-again
-    returns)
+    tie.close (tie.spec Inv-loop μ-loop (λ c. lowest-none refl refl) (λ c. search needs) (λ c κs. search needs) (λ c. search needs)
+    (λ c. search needs) next-cost-requires (λ c. search needs) (λ c κs. search needs) (λ c. search needs) (λ c. search needs) loop-again
+    (λ c. lowest-done (c .before .loop .inv) (c .loop-test .left)))

@@ -21,33 +21,11 @@ entry t = t .before .before .before .before
 abbrev turn : tie.After-shared-slice-known5 Inv-loop μ-loop → tie.In-loop Inv-loop μ-loop
 turn c = c .before .before
 
-loop-holds : tie.Need-loop-holds Inv-loop μ-loop
-loop-holds c = loading-none refl
-
-next-value-requires : tie.Need-next-value-requires Inv-loop μ-loop
-next-value-requires c κs = entry-in (entry (turn c .before) .pre) _ _ (omega arith)
-
 loop-again : tie.Need-loop-again Inv-loop μ-loop
 loop-again c = let t = turn (c .before) in loading-more (t .before .loop .inv) (t .loop-test .taken) (c .next-value .ensures)
 
-returns : tie.Need-returns Inv-loop μ-loop
-returns c = loading-done (c .before .loop .inv) (c .loop-test .left)
-
 pub load-next-spec : {M : Type 1} → statement M
 load-next-spec =
-    tie.close
-    (tie.spec
-    Inv-loop
-    μ-loop
-    loop-holds
-    (λ c. search needs)
-    (λ c. search needs)
-    (λ c. search needs)
-    (λ c. search needs)
-    next-value-requires
-    (λ c. search needs)
-    (λ c. search needs)
-    (λ c. search needs)
-    (λ c. search needs)
-    loop-again
-    returns)
+    tie.close (tie.spec Inv-loop μ-loop (λ c. loading-none refl) (λ c. search needs) (λ c. search needs) (λ c. search needs) (λ c. search needs)
+    (λ c κs. entry-in (entry (turn c .before) .pre) _ _ (omega arith)) (λ c. search needs) (λ c. search needs) (λ c. search needs) (λ c. search needs)
+    loop-again (λ c. loading-done (c .before .loop .inv) (c .loop-test .left)))

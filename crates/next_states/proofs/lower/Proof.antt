@@ -13,7 +13,4 @@ returns-2 c = (omega arith, rw (le-ltb (c .before .before .args .cost) (c .befor
 
 pub lower-spec : {M : Type 1} → statement M
 lower-spec =
-    tie.close
-    (tie.spec
-    returns
-    returns-2)
+    tie.close (tie.spec returns returns-2)

@@ -14,19 +14,7 @@ use Rattle.next_states.proofs.next_cost.Tie as tie
 comes-to : (c : tie.Else1) → let a = c .before .args in plus (a .weight * a .gap) (loaded (a .value)) ≡ some (a .weight * a .gap + a .value)
 comes-to c = rw (ne-eqb (c .before .args .value) 18446744073709551615 (c .if1 .left))
 
-returns : tie.Need-returns
-returns c = rw (c .if1 .taken)
-
-step-cost-requires : tie.Need-step-cost-requires
-step-cost-requires c κs = (c .before .pre .0, omega (arith, c .before .pre .1 _ (comes-to c)))
-
-returns-2 : tie.Need-returns-2
-returns-2 c = rw (comes-to (c .before)) (c .step-cost .ensures)
-
 pub next-cost-spec : {M : Type 1} → statement M
 next-cost-spec =
-    tie.close
-    (tie.spec
-    returns
-    step-cost-requires
-    returns-2)
+    tie.close (tie.spec (λ c. rw (c .if1 .taken)) (λ c κs. (c .before .pre .0, omega (arith, c .before .pre .1 _ (comes-to c))))
+    (λ c. rw (comes-to (c .before)) (c .step-cost .ensures)))

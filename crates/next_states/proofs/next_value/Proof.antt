@@ -13,35 +13,10 @@ use Rattle.next_states.proofs.next_value.Tie as tie
 inside : (c : tie.Else1) → let a = c .before .args in (a .x * a .block + a .index < length (a .table .now)) × (a .stride ≤ a .index)
 inside c = c .before .pre (omega arith)
 
-returns : tie.Need-returns
-returns c = rw (c .if1 .taken)
-
-mul-result : tie.Need-mul-result
-mul-result c = omega (arith, inside c)
-
-add-result : tie.Need-add-result
-add-result c = omega (arith, inside c)
-
-sub-result : tie.Need-sub-result
-sub-result c = omega (arith, inside c)
-
-mul-result-2 : tie.Need-mul-result-2
-mul-result-2 c = omega (arith, inside c)
-
-shared-slice-read-result : tie.Need-shared-slice-read-result
-shared-slice-read-result c = omega (arith, c .before .before .pre (omega arith))
-
 returns-2 : tie.Need-returns-2
 returns-2 c = rw (lt-ltb 0 (c .before .before .args .left) (omega arith)) (sym (stored-loaded _))
 
 pub next-value-spec : {M : Type 1} → statement M
 next-value-spec =
-    tie.close
-    (tie.spec
-    returns
-    mul-result
-    add-result
-    sub-result
-    mul-result-2
-    shared-slice-read-result
-    returns-2)
+    tie.close (tie.spec (λ c. rw (c .if1 .taken)) (λ c. omega (arith, inside c)) (λ c. omega (arith, inside c)) (λ c. omega (arith, inside c))
+    (λ c. omega (arith, inside c)) (λ c. omega (arith, c .before .before .pre (omega arith))) returns-2)

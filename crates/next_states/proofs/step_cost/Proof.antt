@@ -18,10 +18,4 @@ returns c =
 
 pub step-cost-spec : {M : Type 1} → statement M
 step-cost-spec =
-    tie.close
-    (tie.spec
-    plus-requires
-    (λ c κs. search needs)
-    (λ c κs. search needs)
-    returns
-    (λ c. search needs))
+    tie.close (tie.spec plus-requires (λ c κs. search needs) (λ c κs. search needs) returns (λ c. search needs))

@@ -15,23 +15,8 @@ Inv-loop bytes at groups value₀ shift₀ i₀ left₀ value shift i left = Rea
 abbrev μ-loop : tie.MeasureT-loop
 μ-loop bytes at groups value₀ shift₀ i₀ left₀ value shift i left = left
 
-loop-holds : tie.Need-loop-holds Inv-loop μ-loop
-loop-holds c = reading-none _ _ _
-
 returns : tie.Need-returns Inv-loop μ-loop
 returns c = reading-ends _ _ _ _ _ _ _ (c .before .before .loop .inv) (c .before .loop-test .taken) (c .if1 .taken)
-
-shared-slice-read-b : tie.Need-shared-slice-read-b Inv-loop μ-loop
-shared-slice-read-b c = search needs
-
-group-requires : tie.Need-group-requires Inv-loop μ-loop
-group-requires c κs = search needs
-
-with-group-requires : tie.Need-with-group-requires Inv-loop μ-loop
-with-group-requires c κs = search needs
-
-add-i : tie.Need-add-i Inv-loop μ-loop
-add-i c = omega arith
 
 -- what stands at i is a byte
 byte : (c : tie.After-with-group Inv-loop μ-loop) → getD (c .before .before .before .before .before .before .before .args .bytes .now) (c .before .before .before .before .before .loop .i) 0 < 256
@@ -55,15 +40,6 @@ returns-4 c =
     (reading-last _ _ _ _ _ _ _ (in-loop .before .loop .inv) (in-loop .loop-test .taken) (c .before .before .before .before .before .if1 .left)
     (bit-clear _ (byte (c .before .before)) (c .before .if2 .taken)) (λ z. absurd (c .if3 .left z)))
 
-add-shift : tie.Need-add-shift Inv-loop μ-loop
-add-shift c = search needs
-
-sub-left : tie.Need-sub-left Inv-loop μ-loop
-sub-left c = search needs
-
-loop-less : tie.Need-loop-less Inv-loop μ-loop
-loop-less c = search needs
-
 loop-again : tie.Need-loop-again Inv-loop μ-loop
 loop-again c =
     let in-loop = c .before .before .before .before .before in
@@ -71,26 +47,8 @@ loop-again c =
     (reading-more _ _ _ _ _ _ _ (in-loop .before .loop .inv) (in-loop .loop-test .taken) (c .before .before .before .before .if1 .left)
     (bit-set _ (byte (c .before)) (c .if2 .left)) (byte (c .before)))
 
-returns-5 : tie.Need-returns-5 Inv-loop μ-loop
-returns-5 c = reading-out _ _ _ _ _ _ _ (c .before .loop .inv) (omega arith)
-
 pub read-number-spec : {M : Type 1} → statement M
 read-number-spec =
-    tie.close
-    (tie.spec
-    Inv-loop
-    μ-loop
-    loop-holds
-    returns
-    shared-slice-read-b
-    group-requires
-    with-group-requires
-    add-i
-    returns-2
-    returns-3
-    returns-4
-    add-shift
-    sub-left
-    loop-less
-    loop-again
-    returns-5)
+    tie.close (tie.spec Inv-loop μ-loop (λ c. reading-none _ _ _) returns (λ c. search needs) (λ c κs. search needs) (λ c κs. search needs)
+    (λ c. omega arith) returns-2 returns-3 returns-4 (λ c. search needs) (λ c. search needs) (λ c. search needs) loop-again
+    (λ c. reading-out _ _ _ _ _ _ _ (c .before .loop .inv) (omega arith)))

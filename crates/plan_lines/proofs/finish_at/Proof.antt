@@ -27,32 +27,14 @@ returns c =
     let args = c .before .args in
     finish-past (gap (args .queue)) (kindIn (problem (args .queue))) _ (args .t2) (args .place) (omega (arith, sixty (c .before)))
 
-loop-holds : tie.Need-loop-holds Inv-loop μ-loop
-loop-holds c = cutting-none _ _ _ _ _
-
 loop-again : tie.Need-loop-again Inv-loop μ-loop
 loop-again c =
     let start = c .before .before .before .before .before .before in
     cutting-more (gap (start .args .queue)) (kindIn (problem (start .args .queue))) _ _ _ _ _ _ (c .before .before .before .before .loop .inv) (c .before .before .before .loop-test .taken) (omega (arith, sixty start))
     _ _ _ (c .before .before .kind-of .ensures) (c .before .gap-seconds .ensures .0) (c .before .gap-seconds .ensures .1) (c .plus .ensures)
 
-returns-2 : tie.Need-returns-2 Inv-loop μ-loop
-returns-2 c = cutting-done _ _ _ _ _ _ _ _ (c .before .loop .inv) (c .loop-test .left)
-
 pub finish-at-spec : {M : Type 1} → statement M
 finish-at-spec =
-    tie.close
-    (tie.spec
-    Inv-loop
-    μ-loop
-    returns
-    loop-holds
-    (λ c. search needs)
-    (λ c κs. search needs)
-    (λ c κs. search needs)
-    (λ c κs. search needs)
-    (λ c. search needs)
-    (λ c. search needs)
-    (λ c. search needs)
-    loop-again
-    returns-2)
+    tie.close (tie.spec Inv-loop μ-loop returns (λ c. cutting-none _ _ _ _ _) (λ c. search needs) (λ c κs. search needs) (λ c κs. search needs)
+    (λ c κs. search needs) (λ c. search needs) (λ c. search needs) (λ c. search needs) loop-again
+    (λ c. cutting-done _ _ _ _ _ _ _ _ (c .before .loop .inv) (c .loop-test .left)))

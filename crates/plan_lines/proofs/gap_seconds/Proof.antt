@@ -25,12 +25,4 @@ returns-2 c = (c .in-seconds2 .ensures .0 ∙ c .before .gap-after .ensures, c .
 
 pub gap-seconds-spec : {M : Type 1} → statement M
 gap-seconds-spec =
-    tie.close
-    (tie.spec
-    (λ c κs. search needs)
-    (λ c κs. search needs)
-    returns
-    (λ c. search needs)
-    gap-after-requires
-    (λ c κs. search needs)
-    returns-2)
+    tie.close (tie.spec (λ c κs. search needs) (λ c κs. search needs) returns (λ c. search needs) gap-after-requires (λ c κs. search needs) returns-2)

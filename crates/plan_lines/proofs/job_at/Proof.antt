@@ -12,14 +12,8 @@ use Rattle.plan_lines.proofs.job_at.Tie as tie
 sixty : (c : tie.Start) → length (c .args .t1) ≡ 60
 sixty c = search needs
 
-returns : tie.Need-returns
-returns c = at-zero _ _ (c .if1 .taken)
-
 returns-2 : tie.Need-returns-2
 returns-2 c = at-past (c .before .before .args .t1) (c .before .before .args .place) (omega (arith, sixty (c .before .before)))
 
-returns-3 : tie.Need-returns-3
-returns-3 c = at-within _ _ (c .before .if1 .left)
-
 pub job-at-spec : {M : Type 1} → statement M
-job-at-spec = tie.close (tie.spec returns returns-2 (λ c. search needs) (λ c. search needs) returns-3)
+job-at-spec = tie.close (tie.spec (λ c. at-zero _ _ (c .if1 .taken)) returns-2 (λ c. search needs) (λ c. search needs) (λ c. at-within _ _ (c .before .if1 .left)))

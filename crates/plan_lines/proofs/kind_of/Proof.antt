@@ -12,12 +12,6 @@ use Rattle.plan_lines.proofs.kind_of.Tie as tie
 sixty : (c : tie.Start) → length (c .args .queue .«job_kinds») ≡ 60
 sixty c = search needs
 
-returns : tie.Need-returns
-returns c = at-zero _ _ (c .if1 .taken)
-
-returns-2 : tie.Need-returns-2
-returns-2 c = kind-past (c .before .before .before .args .queue) _ (c .if2 .taken)
-
 returns-3 : tie.Need-returns-3
 returns-3 c =
     let start = c .before .before .before .before in
@@ -28,11 +22,5 @@ returns-4 c = kind-within (c .before .before .before .before .before .args .queu
 
 pub kind-of-spec : {M : Type 1} → statement M
 kind-of-spec =
-    tie.close
-    (tie.spec
-    returns
-    returns-2
-    returns-3
-    (λ c. search needs)
-    (λ c. search needs)
-    returns-4)
+    tie.close (tie.spec (λ c. at-zero _ _ (c .if1 .taken)) (λ c. kind-past (c .before .before .before .args .queue) _ (c .if2 .taken)) returns-3
+    (λ c. search needs) (λ c. search needs) returns-4)

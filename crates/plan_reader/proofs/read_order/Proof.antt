@@ -18,9 +18,6 @@ Inv-loop bytes at jobs out₀ i₀ k₀ out i k = Ordering bytes at jobs out₀ 
 abbrev μ-loop : tie.MeasureT-loop
 μ-loop bytes at jobs out₀ i₀ k₀ out i k = jobs - k
 
-loop-holds : tie.Need-loop-holds Inv-loop μ-loop
-loop-holds c = order-none
-
 -- the turn in which a job was read, or refused
 abbrev turn : tie.After-value Inv-loop μ-loop → tie.In-loop Inv-loop μ-loop
 turn c = c .before .before .before .before
@@ -43,9 +40,6 @@ cast-out c =
 slice-write-out : tie.Need-slice-write-out Inv-loop μ-loop
 slice-write-out c = omega (arith, turn (c .before) .before .loop .inv .long, entry (c .before) .pre .1)
 
-same-length : tie.Need-same-length Inv-loop μ-loop
-same-length c = last (c .before) .before .loop .inv .long
-
 returns : tie.Need-returns Inv-loop μ-loop
 returns c =
     let known = c .before in
@@ -53,34 +47,14 @@ returns c =
     let stops = as-refused _ _ (sym (known .before .before .read-job .ensures) ∙ known .why .given .1) in
     (loop-stop run _ (last known .loop-test .taken) stops, λ jobs n e. loop-stopped run _ (last known .loop-test .taken) stops jobs n e)
 
-loop-less : tie.Need-loop-less Inv-loop μ-loop
-loop-less c = omega arith
-
 loop-again : tie.Need-loop-again Inv-loop μ-loop
 loop-again c = let known = c .before in order-again (turn known .before .loop .inv) _ _ (turn known .loop-test .taken) (entry known .pre .1) (job-found known)
-
-same-length-2 : tie.Need-same-length-2 Inv-loop μ-loop
-same-length-2 c = c .before .loop .inv .long
 
 returns-2 : tie.Need-returns-2 Inv-loop μ-loop
 returns-2 c = let run = c .before .loop .inv .loop in (loop-done run (c .loop-test .left), loop-stored run (c .loop-test .left) refl)
 
 pub read-order-spec : {M : Type 1} → statement M
 read-order-spec =
-    tie.close
-    (tie.spec
-    Inv-loop
-    μ-loop
-    loop-holds
-    (λ c κs. search needs)
-    (λ c. search needs)
-    cast-out
-    slice-write-out
-    (λ c. search needs)
-    same-length
-    returns
-    (λ c. search needs)
-    loop-less
-    loop-again
-    same-length-2
+    tie.close (tie.spec Inv-loop μ-loop (λ c. order-none) (λ c κs. search needs) (λ c. search needs) cast-out slice-write-out (λ c. search needs)
+    (λ c. last (c .before) .before .loop .inv .long) returns (λ c. search needs) (λ c. omega arith) loop-again (λ c. c .before .loop .inv .long)
     returns-2)

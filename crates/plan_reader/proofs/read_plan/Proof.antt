@@ -26,9 +26,6 @@ front-of c = c .before .before .before .before .before .before
 jobs-found : (c : tie.After-end) → let f = front-of c .front .given .0 .0 in (js : List ℕ) × (order (f .jobs) (entry (front-of c) .args .bytes .now) (f .next) ≡ found js (c .end .given .0 .0))
 jobs-found c = as-next _ _ (sym (c .before .before .before .read-order .ensures .0) ∙ c .end .given .1)
 
-read-order-requires : tie.Need-read-order-requires
-read-order-requires c κs = let few = front-few _ _ _ _ (front-found (c .before .before) .1) in (few, few)
-
 returns : tie.Need-returns
 returns c =
     let read = c .before .before .before in
@@ -53,19 +50,6 @@ returns-4 c =
 
 pub read-plan-spec : {M : Type 1} → statement M
 read-plan-spec =
-    tie.close
-    (tie.spec
-    (λ c κs. search needs)
-    (λ c. search needs)
-    (λ c κs. search needs)
-    (λ c. search needs)
-    (λ c. search needs)
-    read-order-requires
-    (λ c. search needs)
-    (λ c κs. search needs)
-    (λ c. search needs)
-    (λ c κs. search needs)
-    returns
-    returns-2
-    returns-3
-    returns-4)
+    tie.close (tie.spec (λ c κs. search needs) (λ c. search needs) (λ c κs. search needs) (λ c. search needs) (λ c. search needs)
+    (λ c κs. let few = front-few _ _ _ _ (front-found (c .before .before) .1) in (few, few)) (λ c. search needs) (λ c κs. search needs)
+    (λ c. search needs) (λ c κs. search needs) returns returns-2 returns-3 returns-4)

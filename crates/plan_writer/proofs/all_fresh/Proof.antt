@@ -22,9 +22,6 @@ Inv-loop order jobs k₀ k = Testing (fresh jobs) followedBy (take jobs order) j
 abbrev μ-loop : tie.MeasureT-loop
 μ-loop order jobs k₀ k = jobs - k
 
-loop-holds : tie.Need-loop-holds Inv-loop μ-loop
-loop-holds c = test-none (length-take-le _ _ (c .before .pre)) refl
-
 -- the job tested is the next one
 abbrev turn : tie.After-is-fresh Inv-loop μ-loop → tie.In-loop Inv-loop μ-loop
 turn c = c .before
@@ -40,9 +37,6 @@ returns c =
     let call = c .before in
     test-out (turn call .before .loop .inv) 0 _ (turn call .loop-test .taken) (next call) (sym (call .is-fresh .ensures) ∙ not-true _ (c .if1 .taken))
 
-loop-less : tie.Need-loop-less Inv-loop μ-loop
-loop-less c = omega arith
-
 loop-again : tie.Need-loop-again Inv-loop μ-loop
 loop-again c =
     let call = c .before in
@@ -51,19 +45,7 @@ loop-again c =
     let one : take (k + 1) order ≡ followedBy (take k order) (getD order k 0) = rw (add-one k) (take-suc order k 0 (omega (arith, entry call .pre))) in
     rw one (test-more (turn call .before .loop .inv) 0 _ (turn call .loop-test .taken) (next call) (sym (call .is-fresh .ensures) ∙ not-false _ (c .if1 .left)))
 
-returns-2 : tie.Need-returns-2 Inv-loop μ-loop
-returns-2 c = test-done (c .before .loop .inv) (c .loop-test .left)
-
 pub all-fresh-spec : {M : Type 1} → statement M
 all-fresh-spec =
-    tie.close
-    (tie.spec
-    Inv-loop
-    μ-loop
-    loop-holds
-    (λ c κs. search needs)
-    returns
-    (λ c. search needs)
-    loop-less
-    loop-again
-    returns-2)
+    tie.close (tie.spec Inv-loop μ-loop (λ c. test-none (length-take-le _ _ (c .before .pre)) refl) (λ c κs. search needs) returns (λ c. search needs)
+    (λ c. omega arith) loop-again (λ c. test-done (c .before .loop .inv) (c .loop-test .left)))

@@ -98,19 +98,5 @@ returns-6 c =
 
 pub judge-plan-spec : {M : Type 1} → statement M
 judge-plan-spec =
-    tie.close
-    (tie.spec
-    (λ c. search needs)
-    (λ c κs. search needs)
-    returns
-    (λ c κs. search needs)
-    returns-2
-    (λ c κs. search needs)
-    returns-3
-    (λ c. search needs)
-    (λ c κs. search needs)
-    returns-4
-    (λ c. search needs)
-    all-fresh-requires
-    returns-5
-    returns-6)
+    tie.close (tie.spec (λ c. search needs) (λ c κs. search needs) returns (λ c κs. search needs) returns-2 (λ c κs. search needs) returns-3
+    (λ c. search needs) (λ c κs. search needs) returns-4 (λ c. search needs) all-fresh-requires returns-5 returns-6)

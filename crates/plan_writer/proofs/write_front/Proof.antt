@@ -58,9 +58,6 @@ at-jobs c = at-states (c .before .before .before .before .before)
 jobs : (c : tie.After-write-number5) → Holds (at-jobs c) (toJobs (at-jobs c .args .plan)) (c .write-number5 .last .0) (c .write-number5 .result)
 jobs c = wrote-both (at-jobs c .args .buffer .now) 0 (toStates (at-jobs c .args .plan)) _ _ (states (c .before .before .before .before .before)) (encode (at-jobs c .args .plan .jobs)) _ _ (c .write-number5 .ensures)
 
-write-opening-requires : tie.Need-write-opening-requires
-write-opening-requires c κs = room (c .before .before .before) .opening
-
 write-number-requires : tie.Need-write-number-requires
 write-number-requires c κs = let w = c .before .before .before in room-left (at-opening w .args .buffer .now) 0 toOpening _ _ (opening w) (encode 1) (room (at-opening w) .edition)
 
@@ -82,15 +79,5 @@ returns c = let w = jobs (c .before .before) in (w .0 ∙ zero-add _, w .1)
 
 pub write-front-spec : {M : Type 1} → statement M
 write-front-spec =
-    tie.close
-    (tie.spec
-    write-opening-requires
-    write-number-requires
-    (λ c. search needs)
-    write-number-requires-2
-    write-number-requires-3
-    write-number-requires-4
-    (λ c. search needs)
-    write-number-requires-5
-    (λ c. search needs)
-    returns)
+    tie.close (tie.spec (λ c κs. room (c .before .before .before) .opening) write-number-requires (λ c. search needs) write-number-requires-2
+    write-number-requires-3 write-number-requires-4 (λ c. search needs) write-number-requires-5 (λ c. search needs) returns)

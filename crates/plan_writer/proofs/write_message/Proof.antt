@@ -42,9 +42,6 @@ room c = rw (← sixty c) (entry c .pre .0)
 parts : (c : tie.After-order2) → message (entry c .args .plan) ≡ frontBytes (entry c .args .plan) ++ jobBytes (entry c .args .plan)
 parts c = message-parts _ (room c)
 
-write-front-requires : tie.Need-write-front-requires
-write-front-requires c κs = front-first _ _ (c .before .before .pre .1)
-
 write-byte-run-requires : tie.Need-write-byte-run-requires
 write-byte-run-requires c κs =
     let lent = c .before in
@@ -61,11 +58,5 @@ returns c =
 
 pub write-message-spec : {M : Type 1} → statement M
 write-message-spec =
-    tie.close
-    (tie.spec
-    write-front-requires
-    (λ c. search needs)
-    (λ c. search needs)
-    write-byte-run-requires
-    (λ c. search needs)
-    returns)
+    tie.close (tie.spec (λ c κs. front-first _ _ (c .before .before .pre .1)) (λ c. search needs) (λ c. search needs) write-byte-run-requires
+    (λ c. search needs) returns)

@@ -43,13 +43,5 @@ returns-2 c =
 
 pub plan-spec : {M : Type 1} → statement M
 plan-spec =
-    tie.close
-    (tie.spec
-    (λ c κs. search needs)
-    (λ c. search needs)
-    (λ c. search needs)
-    plan-record-requires
-    returns
-    (λ c. search needs)
-    (λ c. search needs)
-    returns-2)
+    tie.close (tie.spec (λ c κs. search needs) (λ c. search needs) (λ c. search needs) plan-record-requires returns (λ c. search needs)
+    (λ c. search needs) returns-2)

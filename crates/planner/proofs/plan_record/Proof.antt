@@ -27,12 +27,6 @@ needed c = c .needed-entries .ensures ∙ sized (c .before)
 abbrev needed-at : tie.After-make-plan-arg2 → tie.After-needed-entries
 needed-at c = c .before .before .before
 
-returns : tie.Need-returns
-returns c = ends-refused _ _ (short-buffer _ _ _ (c .if1 .taken))
-
-needed-entries-requires : tie.Need-needed-entries-requires
-needed-entries-requires c κs = omega (arith, sized c, entries-small (entry c .args .queue) (entry c .pre))
-
 returns-2 : tie.Need-returns-2
 returns-2 c = ends-refused _ _ (short-table _ _ _ (c .before .before .before .if1 .left) _ (needed (c .before)) (c .if2 .taken))
 
@@ -49,13 +43,6 @@ returns-3 c =
 
 pub plan-record-spec : {M : Type 1} → statement M
 plan-record-spec =
-    tie.close
-    (tie.spec
-    returns
-    (λ c κs. search needs)
-    needed-entries-requires
-    returns-2
-    make-plan-requires
-    (λ c. search needs)
-    (λ c. search needs)
-    returns-3)
+    tie.close (tie.spec (λ c. ends-refused _ _ (short-buffer _ _ _ (c .if1 .taken))) (λ c κs. search needs)
+    (λ c κs. omega (arith, sized c, entries-small (entry c .args .queue) (entry c .pre))) returns-2 make-plan-requires (λ c. search needs)
+    (λ c. search needs) returns-3)

@@ -6,16 +6,7 @@ use borrow.Author.Needs.{needs}
 use Rattle.queue.proofs.is_window.Statement.{statement}
 use Rattle.queue.proofs.is_window.Tie as tie
 
-returns : tie.Need-returns
-returns c = rw (sym (c .before .is-within .ensures) ∙ not-true _ (c .if1 .taken))
-
-returns-2 : tie.Need-returns-2
-returns-2 c = rw (sym (c .before .is-within .ensures) ∙ not-false _ (c .if1 .left))
-
 pub is-window-spec : {M : Type 1} → statement M
 is-window-spec =
-    tie.close
-    (tie.spec
-    (λ c κs. search needs)
-    returns
-    returns-2)
+    tie.close (tie.spec (λ c κs. search needs) (λ c. rw (sym (c .before .is-within .ensures) ∙ not-true _ (c .if1 .taken)))
+    (λ c. rw (sym (c .before .is-within .ensures) ∙ not-false _ (c .if1 .left))))

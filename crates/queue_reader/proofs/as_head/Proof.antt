@@ -4,18 +4,7 @@ use borrow.Author.Needs.{needs}
 use Rattle.queue_reader.proofs.as_head.Statement.{statement}
 use Rattle.queue_reader.proofs.as_head.Tie as tie
 
-returns : tie.Need-returns
-returns c = rw (c .before .before .outcome .given .1) (c .no-head .ensures)
-
-returns-2 : tie.Need-returns-2
-returns-2 c = rw (c .enum-told .given .1)
-
 pub as-head-spec : {M : Type 1} → statement M
 as-head-spec =
-    tie.close
-    (tie.spec
-    (λ c. search needs)
-    (λ c κs. search needs)
-    returns
-    (λ c. search needs)
-    returns-2)
+    tie.close (tie.spec (λ c. search needs) (λ c κs. search needs) (λ c. rw (c .before .before .outcome .given .1) (c .no-head .ensures))
+    (λ c. search needs) (λ c. rw (c .enum-told .given .1)))

@@ -5,23 +5,10 @@ use borrow.Author.Needs.{needs}
 use Rattle.queue_reader.proofs.end_reading.Statement.{statement}
 use Rattle.queue_reader.proofs.end_reading.Tie as tie
 
-returns : tie.Need-returns
-returns c = rw (c .before .before .outcome .given .1) (c .refused-reading .ensures)
-
 returns-2 : tie.Need-returns-2
 returns-2 c = rw (c .before .before .before .outcome2 .given .1, ne-eqb _ _ (c .before .if1 .taken)) (c .refused-reading2 .ensures)
 
-returns-3 : tie.Need-returns-3
-returns-3 c = rw (c .before .before .outcome2 .given .1, eq-eqb _ _ (c .if1 .left))
-
 pub end-reading-spec : {M : Type 1} → statement M
 end-reading-spec =
-    tie.close
-    (tie.spec
-    (λ c. search needs)
-    (λ c κs. search needs)
-    returns
-    (λ c. search needs)
-    (λ c. search needs)
-    returns-2
-    returns-3)
+    tie.close (tie.spec (λ c. search needs) (λ c κs. search needs) (λ c. rw (c .before .before .outcome .given .1) (c .refused-reading .ensures))
+    (λ c. search needs) (λ c. search needs) returns-2 (λ c. rw (c .before .before .outcome2 .given .1, eq-eqb _ _ (c .if1 .left))))

@@ -29,15 +29,6 @@ at-found c = c .before .before .before .before .before
 abbrev at-refused : tie.After-enum-told Inv-loop μ-loop → tie.After-read-run Inv-loop μ-loop
 at-refused c = c .before .before .before .before
 
-loop-holds : tie.Need-loop-holds Inv-loop μ-loop
-loop-holds c = rows-none
-
-row-start-requires : tie.Need-row-start-requires Inv-loop μ-loop
-row-start-requires c κs = omega arith
-
-read-run-requires : tie.Need-read-run-requires Inv-loop μ-loop
-read-run-requires c κs = omega (arith, c .row-start .ensures, c .before .before .before .loop .inv .long)
-
 same-length : tie.Need-same-length Inv-loop μ-loop
 same-length c = let call = at-refused c in call .read-run .kept .1 .1 .1 .1 .1 .1 .0 ∙ at-turn call .before .loop .inv .long
 
@@ -48,17 +39,11 @@ returns c =
     let stopped = as-stopped _ _ (sym (call .read-run .ensures .0) ∙ c .enum-told .given .1) in
     (c .enum-told .given .1 ∙ loop-stop loop _ (omega arith) stopped, λ rows n f. loop-stopped loop _ (omega arith) stopped rows n f)
 
-loop-less : tie.Need-loop-less Inv-loop μ-loop
-loop-less c = omega arith
-
 loop-again : tie.Need-loop-again Inv-loop μ-loop
 loop-again c =
     let call = at-found c in
     rw (call .read-run .ensures .1)
     (rows-more (at-turn call .before .loop .inv) _ _ (call .before .row-start .ensures) (at-turn call .loop-test .taken) (sym (call .read-run .ensures .0) ∙ c .before .outcome .given .1))
-
-same-length-2 : tie.Need-same-length-2 Inv-loop μ-loop
-same-length-2 c = c .before .loop .inv .long
 
 returns-2 : tie.Need-returns-2 Inv-loop μ-loop
 unfolding placed
@@ -66,19 +51,6 @@ returns-2 c = let loop = c .before .loop .inv .loop in (loop-done loop (omega ar
 
 pub read-gaps-spec : {M : Type 1} → statement M
 read-gaps-spec =
-    tie.close
-    (tie.spec
-    Inv-loop
-    μ-loop
-    loop-holds
-    row-start-requires
-    read-run-requires
-    (λ c. search needs)
-    (λ c. search needs)
-    same-length
-    returns
-    (λ c. search needs)
-    loop-less
-    loop-again
-    same-length-2
-    returns-2)
+    tie.close (tie.spec Inv-loop μ-loop (λ c. rows-none) (λ c κs. omega arith)
+    (λ c κs. omega (arith, c .row-start .ensures, c .before .before .before .loop .inv .long)) (λ c. search needs) (λ c. search needs) same-length
+    returns (λ c. search needs) (λ c. omega arith) loop-again (λ c. c .before .loop .inv .long) returns-2)

@@ -55,15 +55,5 @@ returns-2 c =
 
 pub read-jobs-spec : {M : Type 1} → statement M
 read-jobs-spec =
-    tie.close
-    (tie.spec
-    (λ c κs. search needs)
-    (λ c. search needs)
-    (λ c κs. search needs)
-    returns
-    (λ c. search needs)
-    (λ c. search needs)
-    (λ c. search needs)
-    read-byte-run-requires
-    (λ c κs. search needs)
-    returns-2)
+    tie.close (tie.spec (λ c κs. search needs) (λ c. search needs) (λ c κs. search needs) returns (λ c. search needs) (λ c. search needs)
+    (λ c. search needs) read-byte-run-requires (λ c κs. search needs) returns-2)

@@ -25,21 +25,6 @@ at-turn c = c .before .before .before .before
 abbrev at-refused : tie.After-known-told2 Inv-loop μ-loop → tie.In-loop Inv-loop μ-loop
 at-refused c = c .before .before .before .before
 
-loop-holds : tie.Need-loop-holds Inv-loop μ-loop
-loop-holds c = windows-none
-
-slice-write-first : tie.Need-slice-write-first Inv-loop μ-loop
-slice-write-first c = omega (arith, at-turn c .before .loop .inv .long-first)
-
-slice-write-last : tie.Need-slice-write-last Inv-loop μ-loop
-slice-write-last c = omega (arith, at-turn c .before .loop .inv .long-last)
-
-same-length : tie.Need-same-length Inv-loop μ-loop
-same-length c = at-refused c .before .loop .inv .long-first
-
-same-length-2 : tie.Need-same-length-2 Inv-loop μ-loop
-same-length-2 c = at-refused c .before .loop .inv .long-last
-
 returns : tie.Need-returns Inv-loop μ-loop
 returns c =
     let turn = at-refused c in
@@ -47,19 +32,10 @@ returns c =
     let closed = as-closed _ _ (sym (c .before .before .before .read-window .ensures) ∙ c .before .why .given .1) in
     (loop-stop loop _ (turn .loop-test .taken) closed, λ windows n f. loop-stopped loop _ (turn .loop-test .taken) closed windows n f)
 
-loop-less : tie.Need-loop-less Inv-loop μ-loop
-loop-less c = omega arith
-
 loop-again : tie.Need-loop-again Inv-loop μ-loop
 loop-again c =
     let turn = at-turn c in
     windows-more (turn .before .loop .inv) _ _ _ (turn .loop-test .taken) (as-window _ _ _ _ (sym (c .before .before .before .read-window .ensures) ∙ c .before .from .given .1))
-
-same-length-3 : tie.Need-same-length-3 Inv-loop μ-loop
-same-length-3 c = c .before .loop .inv .long-first
-
-same-length-4 : tie.Need-same-length-4 Inv-loop μ-loop
-same-length-4 c = c .before .loop .inv .long-last
 
 returns-2 : tie.Need-returns-2 Inv-loop μ-loop
 returns-2 c =
@@ -72,22 +48,7 @@ returns-2 c =
 
 pub read-windows-spec : {M : Type 1} → statement M
 read-windows-spec =
-    tie.close
-    (tie.spec
-    Inv-loop
-    μ-loop
-    loop-holds
-    (λ c κs. search needs)
-    (λ c. search needs)
-    slice-write-first
-    slice-write-last
-    (λ c. search needs)
-    same-length
-    same-length-2
-    returns
-    (λ c. search needs)
-    loop-less
-    loop-again
-    same-length-3
-    same-length-4
-    returns-2)
+    tie.close (tie.spec Inv-loop μ-loop (λ c. windows-none) (λ c κs. search needs) (λ c. search needs)
+    (λ c. omega (arith, at-turn c .before .loop .inv .long-first)) (λ c. omega (arith, at-turn c .before .loop .inv .long-last)) (λ c. search needs)
+    (λ c. at-refused c .before .loop .inv .long-first) (λ c. at-refused c .before .loop .inv .long-last) returns (λ c. search needs)
+    (λ c. omega arith) loop-again (λ c. c .before .loop .inv .long-first) (λ c. c .before .loop .inv .long-last) returns-2)

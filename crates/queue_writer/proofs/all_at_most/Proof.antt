@@ -25,9 +25,6 @@ at-entry c = c .before .before .before .before .before
 abbrev at-turn : tie.After-is-within Inv-loop μ-loop → tie.In-loop Inv-loop μ-loop
 at-turn c = c .before .before
 
-loop-holds : tie.Need-loop-holds Inv-loop μ-loop
-loop-holds c = test-none (part-length _ _ _ (c .before .pre)) (all-in-order _ _)
-
 cast-is-within : tie.Need-cast-is-within Inv-loop μ-loop
 cast-is-within c = omega (arith, c .shared-slice-known2 .given (c .before .before .before .before .args .from + c .before .before .loop .k))
 
@@ -37,32 +34,14 @@ returns c =
     let turn = at-turn (c .before) in
     test-out (turn .before .loop .inv) 0 _ (turn .loop-test .taken) (part-at (args .values .now) (args .from) (args .count) (turn .before .loop .k) (turn .loop-test .taken)) (sym (c .before .is-within .ensures) ∙ not-true _ (c .if1 .taken))
 
-loop-less : tie.Need-loop-less Inv-loop μ-loop
-loop-less c = omega arith
-
 loop-again : tie.Need-loop-again Inv-loop μ-loop
 loop-again c =
     let args = at-entry (c .before) .args in
     let turn = at-turn (c .before) in
     test-more (turn .before .loop .inv) 0 _ (turn .loop-test .taken) (part-at (args .values .now) (args .from) (args .count) (turn .before .loop .k) (turn .loop-test .taken)) (sym (c .before .is-within .ensures) ∙ not-false _ (c .if1 .left))
 
-returns-2 : tie.Need-returns-2 Inv-loop μ-loop
-returns-2 c = test-done (c .before .loop .inv) (c .loop-test .left)
-
 pub all-at-most-spec : {M : Type 1} → statement M
 all-at-most-spec =
-    tie.close
-    (tie.spec
-    Inv-loop
-    μ-loop
-    loop-holds
-    (λ c. search needs)
-    (λ c. search needs)
-    (λ c. search needs)
-    cast-is-within
-    (λ c κs. search needs)
-    returns
-    (λ c. search needs)
-    loop-less
-    loop-again
-    returns-2)
+    tie.close (tie.spec Inv-loop μ-loop (λ c. test-none (part-length _ _ _ (c .before .pre)) (all-in-order _ _)) (λ c. search needs)
+    (λ c. search needs) (λ c. search needs) cast-is-within (λ c κs. search needs) returns (λ c. search needs) (λ c. omega arith) loop-again
+    (λ c. test-done (c .before .loop .inv) (c .loop-test .left)))

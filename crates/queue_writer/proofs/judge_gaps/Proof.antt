@@ -33,42 +33,18 @@ here : (c : tie.After-all-at-most Inv-loop μ-loop)
     → let args = at-entry c .args in getD (gapRows (args .gaps .now) (args .kinds)) (at-turn c .before .loop .row) [] ≡ part (c .before .row-start .result) (args .kinds) (args .gaps .now)
 here c = let args = at-entry c .args in row-at (args .gaps .now) (args .kinds) (at-turn c .before .loop .row) _ (c .before .row-start .ensures) (omega arith) (omega arith)
 
-loop-holds : tie.Need-loop-holds Inv-loop μ-loop
-loop-holds c = test-none (length-tabulate _ 0 _) (all-in-order _ _)
-
-row-start-requires : tie.Need-row-start-requires Inv-loop μ-loop
-row-start-requires c κs = omega arith
-
-all-at-most-requires : tie.Need-all-at-most-requires Inv-loop μ-loop
-all-at-most-requires c κs = omega (arith, c .row-start .ensures)
-
 returns : tie.Need-returns Inv-loop μ-loop
 returns c =
     let call = c .before in
     test-out (at-turn call .before .loop .inv) [] _ (omega arith) (here call) (sym (call .all-at-most .ensures) ∙ not-true _ (c .if1 .taken))
-
-loop-less : tie.Need-loop-less Inv-loop μ-loop
-loop-less c = omega arith
 
 loop-again : tie.Need-loop-again Inv-loop μ-loop
 loop-again c =
     let call = c .before in
     test-more (at-turn call .before .loop .inv) [] _ (omega arith) (here call) (sym (call .all-at-most .ensures) ∙ not-false _ (c .if1 .left))
 
-returns-2 : tie.Need-returns-2 Inv-loop μ-loop
-returns-2 c = test-done (c .before .loop .inv) (omega arith)
-
 pub judge-gaps-spec : {M : Type 1} → statement M
 judge-gaps-spec =
-    tie.close
-    (tie.spec
-    Inv-loop
-    μ-loop
-    loop-holds
-    row-start-requires
-    all-at-most-requires
-    returns
-    (λ c. search needs)
-    loop-less
-    loop-again
-    returns-2)
+    tie.close (tie.spec Inv-loop μ-loop (λ c. test-none (length-tabulate _ 0 _) (all-in-order _ _)) (λ c κs. omega arith)
+    (λ c κs. omega (arith, c .row-start .ensures)) returns (λ c. search needs) (λ c. omega arith) loop-again
+    (λ c. test-done (c .before .loop .inv) (omega arith)))

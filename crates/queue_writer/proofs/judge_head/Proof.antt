@@ -20,11 +20,4 @@ returns-2 c = rw (sym (c .before .before .before .judge-settings .ensures) ∙ c
 
 pub judge-head-spec : {M : Type 1} → statement M
 judge-head-spec =
-    tie.close
-    (tie.spec
-    (λ c κs. search needs)
-    (λ c. search needs)
-    (λ c. search needs)
-    judge-tables-requires
-    returns
-    returns-2)
+    tie.close (tie.spec (λ c κs. search needs) (λ c. search needs) (λ c. search needs) judge-tables-requires returns returns-2)

@@ -42,9 +42,6 @@ returns : tie.Need-returns
 unfolding judgeJobs
 returns c = rw (sym (c .before .is-within .ensures) ∙ not-true _ (c .if1 .taken))
 
-judge-kinds-requires : tie.Need-judge-kinds-requires
-judge-kinds-requires c κs = few (c .before .before .before .before)
-
 returns-2 : tie.Need-returns-2
 unfolding judgeJobs
 returns-2 c = rw (count-ok (at-count (c .before)), kinds-are (c .before) ∙ not-true _ (c .if2 .taken))
@@ -55,14 +52,5 @@ returns-3 c = rw (count-ok (at-count (c .before)), kinds-are (c .before) ∙ not
 
 pub judge-jobs-spec : {M : Type 1} → statement M
 judge-jobs-spec =
-    tie.close
-    (tie.spec
-    (λ c. search needs)
-    (λ c κs. search needs)
-    returns
-    (λ c. search needs)
-    (λ c. search needs)
-    (λ c. search needs)
-    judge-kinds-requires
-    returns-2
-    returns-3)
+    tie.close (tie.spec (λ c. search needs) (λ c κs. search needs) returns (λ c. search needs) (λ c. search needs) (λ c. search needs)
+    (λ c κs. few (c .before .before .before .before)) returns-2 returns-3)

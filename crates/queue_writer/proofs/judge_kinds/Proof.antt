@@ -38,29 +38,12 @@ returns c =
     let read = c .before .before in
     test-out (at-turn read .before .loop .inv) 0 _ (at-turn read .loop-test .taken) (here read) (sym (c .before .is-within .ensures) ∙ not-true _ (c .if1 .taken))
 
-loop-less : tie.Need-loop-less Inv-loop μ-loop
-loop-less c = omega arith
-
 loop-again : tie.Need-loop-again Inv-loop μ-loop
 loop-again c =
     let read = c .before .before in
     test-more (at-turn read .before .loop .inv) 0 _ (at-turn read .loop-test .taken) (here read) (sym (c .before .is-within .ensures) ∙ not-false _ (c .if1 .left))
 
-returns-2 : tie.Need-returns-2 Inv-loop μ-loop
-returns-2 c = test-done (c .before .loop .inv) (c .loop-test .left)
-
 pub judge-kinds-spec : {M : Type 1} → statement M
 judge-kinds-spec =
-    tie.close
-    (tie.spec
-    Inv-loop
-    μ-loop
-    loop-holds
-    (λ c. search needs)
-    (λ c κs. search needs)
-    (λ c κs. search needs)
-    returns
-    (λ c. search needs)
-    loop-less
-    loop-again
-    returns-2)
+    tie.close (tie.spec Inv-loop μ-loop loop-holds (λ c. search needs) (λ c κs. search needs) (λ c κs. search needs) returns (λ c. search needs)
+    (λ c. omega arith) loop-again (λ c. test-done (c .before .loop .inv) (c .loop-test .left)))

@@ -16,11 +16,4 @@ returns-2 c = rw (sym (c .before .before .before .judge-head .ensures) ∙ c .be
 
 pub judge-queue-spec : {M : Type 1} → statement M
 judge-queue-spec =
-    tie.close
-    (tie.spec
-    (λ c κs. search needs)
-    (λ c. search needs)
-    (λ c. search needs)
-    (λ c κs. search needs)
-    returns
-    returns-2)
+    tie.close (tie.spec (λ c κs. search needs) (λ c. search needs) (λ c. search needs) (λ c κs. search needs) returns returns-2)

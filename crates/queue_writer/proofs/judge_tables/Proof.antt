@@ -70,17 +70,5 @@ returns-4 c =
 
 pub judge-tables-spec : {M : Type 1} → statement M
 judge-tables-spec =
-    tie.close
-    (tie.spec
-    (λ c. search needs)
-    (λ c. search needs)
-    judge-gaps-requires
-    returns
-    (λ c. search needs)
-    all-at-most-requires
-    returns-2
-    (λ c. search needs)
-    (λ c. search needs)
-    judge-windows-requires
-    returns-3
-    returns-4)
+    tie.close (tie.spec (λ c. search needs) (λ c. search needs) judge-gaps-requires returns (λ c. search needs) all-at-most-requires returns-2
+    (λ c. search needs) (λ c. search needs) judge-windows-requires returns-3 returns-4)

@@ -36,39 +36,18 @@ here c =
     window-at (args .first .now) (args .last .now) (args .kinds) (at-turn c .before .loop .kind) (at-turn c .loop-test .taken)
     ∙ (λ i. (sym (c .before .before .wide .ensures) i, sym (c .wide2 .ensures) i))
 
-loop-holds : tie.Need-loop-holds Inv-loop μ-loop
-loop-holds c = test-none (length-tabulate _ 1 _) (all-in-order _ _)
-
 returns : tie.Need-returns Inv-loop μ-loop
 returns c =
     let read = c .before .before in
     test-out (at-turn read .before .loop .inv) (0, 0) _ (at-turn read .loop-test .taken) (here read) (sym (c .before .is-window .ensures) ∙ not-true _ (c .if1 .taken))
-
-loop-less : tie.Need-loop-less Inv-loop μ-loop
-loop-less c = omega arith
 
 loop-again : tie.Need-loop-again Inv-loop μ-loop
 loop-again c =
     let read = c .before .before in
     test-more (at-turn read .before .loop .inv) (0, 0) _ (at-turn read .loop-test .taken) (here read) (sym (c .before .is-window .ensures) ∙ not-false _ (c .if1 .left))
 
-returns-2 : tie.Need-returns-2 Inv-loop μ-loop
-returns-2 c = test-done (c .before .loop .inv) (c .loop-test .left)
-
 pub judge-windows-spec : {M : Type 1} → statement M
 judge-windows-spec =
-    tie.close
-    (tie.spec
-    Inv-loop
-    μ-loop
-    loop-holds
-    (λ c. search needs)
-    (λ c κs. search needs)
-    (λ c. search needs)
-    (λ c κs. search needs)
-    (λ c κs. search needs)
-    returns
-    (λ c. search needs)
-    loop-less
-    loop-again
-    returns-2)
+    tie.close (tie.spec Inv-loop μ-loop (λ c. test-none (length-tabulate _ 1 _) (all-in-order _ _)) (λ c. search needs) (λ c κs. search needs)
+    (λ c. search needs) (λ c κs. search needs) (λ c κs. search needs) returns (λ c. search needs) (λ c. omega arith) loop-again
+    (λ c. test-done (c .before .loop .inv) (c .loop-test .left)))

@@ -31,17 +31,8 @@ here : (c : tie.After-row-start Inv-loop μ-loop)
     → let args = at-entry c .args in getD (gapRows (args .gaps .now) (args .kinds)) (at-turn c .before .loop .row) [] ≡ part (c .row-start .result) (args .kinds) (args .gaps .now)
 here c = let args = at-entry c .args in row-at (args .gaps .now) (args .kinds) (at-turn c .before .loop .row) _ (c .row-start .ensures) (omega arith) (omega arith)
 
-loop-holds : tie.Need-loop-holds Inv-loop μ-loop
-loop-holds c = writing-none (length-tabulate _ 0 _)
-
-row-start-requires : tie.Need-row-start-requires Inv-loop μ-loop
-row-start-requires c κs = omega arith
-
 write-run-requires : tie.Need-write-run-requires Inv-loop μ-loop
 write-run-requires c κs = (omega (arith, c .row-start .ensures), writing-room (at-turn c .before .loop .inv) [] _ (omega arith) (here c) (at-entry c .pre .2))
-
-loop-less : tie.Need-loop-less Inv-loop μ-loop
-loop-less c = omega arith
 
 loop-again : tie.Need-loop-again Inv-loop μ-loop
 loop-again c =
@@ -49,23 +40,7 @@ loop-again c =
     let row = call .before in
     rw (call .write-run .ensures .0, call .write-run .ensures .1) (writing-more (at-turn row .before .loop .inv) [] _ (omega arith) (here row))
 
-same-length : tie.Need-same-length Inv-loop μ-loop
-same-length c = c .before .loop .inv .long
-
-returns : tie.Need-returns Inv-loop μ-loop
-returns c = writing-done (c .before .loop .inv) (omega arith)
-
 pub write-gaps-spec : {M : Type 1} → statement M
 write-gaps-spec =
-    tie.close
-    (tie.spec
-    Inv-loop
-    μ-loop
-    loop-holds
-    row-start-requires
-    write-run-requires
-    (λ c. search needs)
-    loop-less
-    loop-again
-    same-length
-    returns)
+    tie.close (tie.spec Inv-loop μ-loop (λ c. writing-none (length-tabulate _ 0 _)) (λ c κs. omega arith) write-run-requires (λ c. search needs)
+    (λ c. omega arith) loop-again (λ c. c .before .loop .inv .long) (λ c. writing-done (c .before .loop .inv) (omega arith)))

@@ -90,12 +90,6 @@ write-run-requires c κs =
       rw (list-part (q .weights) (q .kinds) (few entry)) at (room-left _ (entry .args .at) (toGaps q) _ _ (gaps w) (encodeAll (weightList q)) (room-weights entry)),
     )
 
-slice-aggregate-write-windows : tie.Need-slice-aggregate-write-windows
-slice-aggregate-write-windows c = sym (lengths (at-weights (c .before .before .before .before)) .first)
-
-slice-aggregate-write-windows-2 : tie.Need-slice-aggregate-write-windows-2
-slice-aggregate-write-windows-2 c = sym (lengths (at-weights (c .before .before .before .before .before)) .last)
-
 write-windows-requires : tie.Need-write-windows-requires
 unfolding headBytes
 write-windows-requires c κs =
@@ -117,16 +111,6 @@ returns c =
 
 pub write-head-spec : {M : Type 1} → statement M
 write-head-spec =
-    tie.close
-    (tie.spec
-    (λ c. search needs)
-    write-settings-requires
-    (λ c. search needs)
-    write-gaps-requires
-    (λ c. search needs)
-    write-run-requires
-    slice-aggregate-write-windows
-    slice-aggregate-write-windows-2
-    write-windows-requires
-    (λ c. search needs)
-    returns)
+    tie.close (tie.spec (λ c. search needs) write-settings-requires (λ c. search needs) write-gaps-requires (λ c. search needs) write-run-requires
+    (λ c. sym (lengths (at-weights (c .before .before .before .before)) .first))
+    (λ c. sym (lengths (at-weights (c .before .before .before .before .before)) .last)) write-windows-requires (λ c. search needs) returns)

@@ -52,11 +52,4 @@ returns c =
 
 pub write-jobs-spec : {M : Type 1} → statement M
 write-jobs-spec =
-    tie.close
-    (tie.spec
-    (λ c. search needs)
-    write-number-requires
-    (λ c. search needs)
-    write-byte-run-requires
-    (λ c. search needs)
-    returns)
+    tie.close (tie.spec (λ c. search needs) write-number-requires (λ c. search needs) write-byte-run-requires (λ c. search needs) returns)

@@ -84,11 +84,4 @@ returns c =
 
 pub write-message-spec : {M : Type 1} → statement M
 write-message-spec =
-    tie.close
-    (tie.spec
-    write-opening-requires
-    write-number-requires
-    write-head-requires
-    write-jobs-requires
-    (λ c. search needs)
-    returns)
+    tie.close (tie.spec write-opening-requires write-number-requires write-head-requires write-jobs-requires (λ c. search needs) returns)

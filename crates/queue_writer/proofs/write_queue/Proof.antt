@@ -43,13 +43,5 @@ returns-3 c =
 
 pub write-queue-spec : {M : Type 1} → statement M
 write-queue-spec =
-    tie.close
-    (tie.spec
-    (λ c κs. search needs)
-    (λ c. search needs)
-    (λ c. search needs)
-    returns
-    write-message-requires
-    returns-2
-    (λ c. search needs)
+    tie.close (tie.spec (λ c κs. search needs) (λ c. search needs) (λ c. search needs) returns write-message-requires returns-2 (λ c. search needs)
     returns-3)

@@ -83,15 +83,5 @@ returns c =
 
 pub write-settings-spec : {M : Type 1} → statement M
 write-settings-spec =
-    tie.close
-    (tie.spec
-    (λ c. search needs)
-    write-number-requires
-    (λ c. search needs)
-    write-number-requires-2
-    (λ c. search needs)
-    write-number-requires-3
-    (λ c. search needs)
-    write-number-requires-4
-    (λ c. search needs)
-    returns)
+    tie.close (tie.spec (λ c. search needs) write-number-requires (λ c. search needs) write-number-requires-2 (λ c. search needs)
+    write-number-requires-3 (λ c. search needs) write-number-requires-4 (λ c. search needs) returns)

@@ -28,9 +28,4 @@ returns c =
 
 pub write-window-spec : {M : Type 1} → statement M
 write-window-spec =
-    tie.close
-    (tie.spec
-    write-number-requires
-    write-number-requires-2
-    (λ c. search needs)
-    returns)
+    tie.close (tie.spec write-number-requires write-number-requires-2 (λ c. search needs) returns)

@@ -27,16 +27,10 @@ here : (c : tie.In-loop Inv-loop μ-loop)
     → let args = at-entry c .args in let k = c .before .loop .kind in getD (windowPairs (args .first .now) (args .last .now) (args .kinds)) k (0, 0) ≡ (getD (args .first .now) k 0, getD (args .last .now) k 0)
 here c = let args = at-entry c .args in window-at (args .first .now) (args .last .now) (args .kinds) (c .before .loop .kind) (c .loop-test .taken)
 
-loop-holds : tie.Need-loop-holds Inv-loop μ-loop
-loop-holds c = writing-none (length-tabulate _ 1 _)
-
 write-window-requires : tie.Need-write-window-requires Inv-loop μ-loop
 write-window-requires c κs =
     let turn = c .before .before .before in
     writing-room (turn .before .loop .inv) (0, 0) _ (turn .loop-test .taken) (here turn) (at-entry turn .pre .2)
-
-loop-less : tie.Need-loop-less Inv-loop μ-loop
-loop-less c = omega arith
 
 loop-again : tie.Need-loop-again Inv-loop μ-loop
 loop-again c =
@@ -44,24 +38,8 @@ loop-again c =
     let turn = call .before .before .before .before in
     rw (call .write-window .ensures .0, call .write-window .ensures .1) (writing-more (turn .before .loop .inv) (0, 0) _ (turn .loop-test .taken) (here turn))
 
-same-length : tie.Need-same-length Inv-loop μ-loop
-same-length c = c .before .loop .inv .long
-
-returns : tie.Need-returns Inv-loop μ-loop
-returns c = writing-done (c .before .loop .inv) (c .loop-test .left)
-
 pub write-windows-spec : {M : Type 1} → statement M
 write-windows-spec =
-    tie.close
-    (tie.spec
-    Inv-loop
-    μ-loop
-    loop-holds
-    (λ c. search needs)
-    (λ c. search needs)
-    write-window-requires
-    (λ c. search needs)
-    loop-less
-    loop-again
-    same-length
-    returns)
+    tie.close (tie.spec Inv-loop μ-loop (λ c. writing-none (length-tabulate _ 1 _)) (λ c. search needs) (λ c. search needs) write-window-requires
+    (λ c. search needs) (λ c. omega arith) loop-again (λ c. c .before .loop .inv .long)
+    (λ c. writing-done (c .before .loop .inv) (c .loop-test .left)))

@@ -16,9 +16,6 @@ returns-2 c = in-contents (c .before .before .before .before .args .number) (ome
 returns-3 : tie.Need-returns-3
 returns-3 c = in-room (c .before .before .before .before .before .args .number) (omega arith) (omega arith)
 
-returns-4 : tie.Need-returns-4
-returns-4 c = none-low _ (c .if1 .taken)
-
 returns-5 : tie.Need-returns-5
 returns-5 c = none-high (c .before .before .before .before .before .args .number) (omega arith)
 
@@ -26,9 +23,6 @@ returns-6 : tie.Need-returns-6
 unfolding numberGroup
 returns-6 c = rw (c .match .keys1)
 
-returns-7 : tie.Need-returns-7
-returns-7 c = in-message (c .before .before .before .args .number) (omega arith) (omega arith)
-
 pub number-group-spec : {M : Type 1} → statement M
 number-group-spec =
-    tie.close (tie.spec returns returns-2 returns-3 returns-4 returns-5 returns-6 returns-7)
+    tie.close (tie.spec returns returns-2 returns-3 (λ c. none-low _ (c .if1 .taken)) returns-5 returns-6 (λ c. in-message (c .before .before .before .args .number) (omega arith) (omega arith)))

@@ -43,17 +43,11 @@ weighs c = let p = entry (c .before) .pre in weighed (p .0) (p .1 .0) (start-lef
 returns : tie.Need-returns
 returns c = (sym (ap stored (plan-no-jobs _ (c .before .before .before .pre .0) (c .if1 .taken))), (λ h _. absurd (omega (arith, c .if1 .taken)), (λ _. refl, λ _. refl)))
 
-slice-aggregate-weight-left-2 : tie.Need-slice-aggregate-weight-left-2
-slice-aggregate-weight-left-2 c = sym (sized (entry c) .0)
-
 weight-left-requires : tie.Need-weight-left-requires
 weight-left-requires c κs = let p = entry c .pre in may-weigh (p .0) (p .1 .0) (start-left (p .0) (p .1 .0)) (sized (entry c) .0)
 
 slice-aggregate-best-next-2 : tie.Need-slice-aggregate-best-next-2
 slice-aggregate-best-next-2 c = let p = entry (c .before .before .before) .pre in sym (strides-long (p .0) (p .1 .0))
-
-slice-aggregate-best-next-3 : tie.Need-slice-aggregate-best-next-3
-slice-aggregate-best-next-3 c = sym (sized (entry (weighed-up c .before)) .1)
 
 sub-best-next : tie.Need-sub-best-next
 sub-best-next c = let p = entry (weighed-up (c .before) .before) .pre in some-block (p .0) (p .1 .0)
@@ -71,17 +65,6 @@ returns-2 c =
 
 pub first-choice-spec : {M : Type 1} → statement M
 first-choice-spec =
-    tie.close
-    (tie.spec
-    returns
-    (λ c. search needs)
-    slice-aggregate-weight-left-2
-    weight-left-requires
-    (λ c. search needs)
-    slice-aggregate-best-next-2
-    slice-aggregate-best-next-3
-    sub-best-next
-    (λ c. search needs)
-    (λ c κs. search needs)
-    best-next-requires
-    returns-2)
+    tie.close (tie.spec returns (λ c. search needs) (λ c. sym (sized (entry c) .0)) weight-left-requires (λ c. search needs)
+    slice-aggregate-best-next-2 (λ c. sym (sized (entry (weighed-up c .before)) .1)) sub-best-next (λ c. search needs) (λ c κs. search needs)
+    best-next-requires returns-2)

@@ -68,9 +68,6 @@ look c =
     let e = entry (turn (taken c)) in
     whole (share e .valid) (share e .prepared) (left-then (turn-of (taken c)) (c .before .take-job .ensures .1)) (sized e .1 .0) (e .pre .1 .1 .0) (e .pre .1 .1 .1 .0)
 
-slice-aggregate-weight-left-2 : tie.Need-slice-aggregate-weight-left-2 Inv-loop μ-loop
-slice-aggregate-weight-left-2 c = sym (sized (copied (c .before .before .before)) .0)
-
 weight-left-requires : tie.Need-weight-left-requires Inv-loop μ-loop
 weight-left-requires c κs = let e = copied (c .before .before .before) in may-weigh (share e .valid) (share e .prepared) (share e .left-is) (sized e .0)
 
@@ -85,9 +82,6 @@ slice-aggregate-take-job-3 c = let t = turn-of (c .before .before .before) in sy
 slice-aggregate-take-job-4 : tie.Need-slice-aggregate-take-job-4 Inv-loop μ-loop
 slice-aggregate-take-job-4 c = let t = turn-of (taking c) in sym (jobs-long (t .share .valid) (t .share .prepared))
 
-sub-take-job : tie.Need-sub-take-job Inv-loop μ-loop
-sub-take-job c = kind-in (taking c) .0
-
 take-job-requires : tie.Need-take-job-requires Inv-loop μ-loop
 take-job-requires c κs =
     let e = entry (turn (taking c)) in
@@ -95,49 +89,16 @@ take-job-requires c κs =
     let inside = kind-in (taking c) in
     (omega (arith, inside), (t .so-far .left-is .long, (sized e .1 .1, (begins-long (t .share .valid) (t .share .prepared), (job-left t, (left-within t, omega (arith, job-there t, jobs-long (t .share .valid) (t .share .prepared))))))))
 
-array-write-order : tie.Need-array-write-order Inv-loop μ-loop
-array-write-order c = place-in (taken c)
-
-sub-at : tie.Need-sub-at Inv-loop μ-loop
-sub-at c = kind-in (taken c) .0
-
-mul-at : tie.Need-mul-at Inv-loop μ-loop
-mul-at c = record { fits = omega (arith, kind-in (taken c)) }
-
-array-read-at : tie.Need-array-read-at Inv-loop μ-loop
-array-read-at c = omega (arith, kind-in (taken c))
-
-sub-at-2 : tie.Need-sub-at-2 Inv-loop μ-loop
-sub-at-2 c = stride-within (turn-of (taken c))
-
-sub-weight : tie.Need-sub-weight Inv-loop μ-loop
-sub-weight c = kind-in (taken c) .0
-
-mul-weight : tie.Need-mul-weight Inv-loop μ-loop
-mul-weight c = record { fits = omega (arith, kind-in (taken c)) }
-
-array-read-weight : tie.Need-array-read-weight Inv-loop μ-loop
-array-read-weight c = omega (arith, kind-in (taken c))
-
 cast-weight : tie.Need-cast-weight Inv-loop μ-loop
 cast-weight c = let t = turn-of (taken c) in omega (arith, t .share .valid .weights _ (takes-now t .low) (takes-now t .high))
 
-sub-weight-2 : tie.Need-sub-weight-2 Inv-loop μ-loop
-sub-weight-2 c = weight-within (turn-of (taken c))
-
 slice-aggregate-best-next-2 : tie.Need-slice-aggregate-best-next-2 Inv-loop μ-loop
 slice-aggregate-best-next-2 c = let t = turn-of (taken (c .before .before)) in sym (strides-long (t .share .valid) (t .share .prepared))
-
-slice-aggregate-best-next-3 : tie.Need-slice-aggregate-best-next-3 Inv-loop μ-loop
-slice-aggregate-best-next-3 c = sym (sized (entry (turn (taken (c .before .before .before)))) .1 .0)
 
 best-next-requires : tie.Need-best-next-requires Inv-loop μ-loop
 best-next-requires c κs =
     let t = turn-of (taken (looking c)) in
     may-look (look (looking c)) (weighs-then t (looking c .before .take-job .ensures .1)) (c .step-weight .ensures) _ (omega (arith, takes-now t .high))
-
-add-place : tie.Need-add-place Inv-loop μ-loop
-add-place c = record { fits = omega (arith, place-in (taken (looking (c .before)))) }
 
 loop-again : tie.Need-loop-again Inv-loop μ-loop
 loop-again c =
@@ -146,41 +107,14 @@ loop-again c =
     let fewer = d .before .take-job .ensures .1 in
     follow-more t fewer (d .before .take-job .ensures .0) (looked (look d) (weighs-then t fewer) (c .before .step-weight .ensures) _ (c .best-next .ensures))
 
-returns : tie.Need-returns Inv-loop μ-loop
-returns c = follow-done (c .before .loop .inv) (c .loop-test .left)
-
 pub follow-spec : {M : Type 1} → statement M
 follow-spec =
-    tie.close
-    (tie.spec
-    Inv-loop
-    μ-loop
-    (λ c. search needs)
-    slice-aggregate-weight-left-2
-    weight-left-requires
-    loop-holds
-    (λ c. search needs)
-    (λ c. search needs)
-    slice-aggregate-take-job-3
-    slice-aggregate-take-job-4
-    sub-take-job
-    take-job-requires
-    array-write-order
-    sub-at
-    mul-at
-    array-read-at
-    sub-at-2
-    sub-weight
-    mul-weight
-    array-read-weight
-    cast-weight
-    sub-weight-2
-    (λ c. search needs)
-    slice-aggregate-best-next-2
-    slice-aggregate-best-next-3
-    (λ c κs. search needs)
-    best-next-requires
-    add-place
-    (λ c. search needs)
-    loop-again
-    returns)
+    tie.close (tie.spec Inv-loop μ-loop (λ c. search needs) (λ c. sym (sized (copied (c .before .before .before)) .0)) weight-left-requires loop-holds
+    (λ c. search needs) (λ c. search needs) slice-aggregate-take-job-3 slice-aggregate-take-job-4 (λ c. kind-in (taking c) .0) take-job-requires
+    (λ c. place-in (taken c)) (λ c. kind-in (taken c) .0) (λ c. record { fits = omega (arith, kind-in (taken c)) })
+    (λ c. omega (arith, kind-in (taken c))) (λ c. stride-within (turn-of (taken c))) (λ c. kind-in (taken c) .0)
+    (λ c. record { fits = omega (arith, kind-in (taken c)) }) (λ c. omega (arith, kind-in (taken c))) cast-weight
+    (λ c. weight-within (turn-of (taken c))) (λ c. search needs) slice-aggregate-best-next-2
+    (λ c. sym (sized (entry (turn (taken (c .before .before .before)))) .1 .0)) (λ c κs. search needs) best-next-requires
+    (λ c. record { fits = omega (arith, place-in (taken (looking (c .before)))) }) (λ c. search needs) loop-again
+    (λ c. follow-done (c .before .loop .inv) (c .loop-test .left)))

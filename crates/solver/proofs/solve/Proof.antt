@@ -27,9 +27,4 @@ returns c =
 
 pub solve-spec : {M : Type 1} → statement M
 solve-spec =
-    tie.close
-    (tie.spec
-    (λ c κs. search needs)
-    first-choice-requires
-    (λ c. search needs)
-    returns)
+    tie.close (tie.spec (λ c κs. search needs) first-choice-requires (λ c. search needs) returns)
