@@ -7,11 +7,8 @@ use borrow.Author.Needs.{needs}
 use Rattle.planner.proofs.written_plan.Statement.{statement}
 use Rattle.planner.proofs.written_plan.Tie as tie
 
-slice-aggregate-result : tie.Need-slice-aggregate-result
-slice-aggregate-result c = sym (length-take-le _ _ (omega arith))
-
 returns-2 : tie.Need-returns-2
 returns-2 c = sym (take-all (c .before .args .bytes) (c .before .args .buffer .now) (omega arith))
 
 pub written-plan-spec : {M : Type 1} → statement M
-written-plan-spec = tie.close (tie.spec slice-aggregate-result (λ c. search needs) returns-2)
+written-plan-spec = tie.close (tie.spec (λ c. sym (length-take-le _ _ (omega arith))) (λ c. search needs) returns-2)
