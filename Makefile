@@ -23,9 +23,13 @@ ifneq ($(MEMORY),)
 export TMPDIR ?= $(MEMORY)
 endif
 
-# The tests from C first; the last line is the toolchain's own `N passed, 0 failed`.
-test: c-test
-	rt ci
+# Every crate proved from nothing, with the edits that must be refused; then the tests from C, on the archive of these proofs. The last line is the
+# toolchain's own `N passed, 0 failed`, held back until the tests have passed.
+test:
+	@said=$$(mktemp) && trap 'rm -f "$$said"' EXIT && { rt ci; echo $$? > "$$said.status"; } | tee "$$said" | sed '$$d'; \
+		status=$$(cat "$$said.status"); rm -f "$$said.status"; \
+		if [ "$$status" -ne 0 ]; then tail -n 1 "$$said"; exit "$$status"; fi; \
+		$(MAKE) --no-print-directory c-test && tail -n 1 "$$said"
 
 # target/lib/libkippertarn.a and target/include/kippertarn.h, with a pkg-config file
 lib:
