@@ -26,7 +26,7 @@ endif
 # Every crate proved from nothing, with the edits that must be refused; then the tests from C, on the archive of these proofs. The last line is the
 # toolchain's own `N passed, 0 failed`, held back until the tests have passed.
 test:
-	@said=$$(mktemp) && trap 'rm -f "$$said"' EXIT && { rt ci; echo $$? > "$$said.status"; } | tee "$$said" | sed '$$d'; \
+	@said=$$(mktemp) && trap 'rm -f "$$said"' EXIT && { rt ci; echo $$? > "$$said.status"; } | tee "$$said" | sed -u '$$d'; \
 		status=$$(cat "$$said.status"); rm -f "$$said.status"; \
 		if [ "$$status" -ne 0 ]; then tail -n 1 "$$said"; exit "$$status"; fi; \
 		$(MAKE) --no-print-directory c-test && tail -n 1 "$$said"

@@ -12,7 +12,7 @@ use lib.ListN.{length, getD, take, replicate, length-map, length-replicate, List
 use lib.Seq.{length-sets}
 use Rattle.number.proofs.Steps.{below-or-not}
 use Rattle.fields.specs.Lists.{tabulate, filled}
-use Rattle.fields.proofs.Tables.{length-tabulate, part-sets}
+use Rattle.fields.proofs.Tables.{length-tabulate, part-sets, tabulate-at}
 use Rattle.queue.specs.declared.Queue.{Queue}
 use Rattle.queue.specs.Record.{Valid}
 use Rattle.sequencing.specs.Lists.{at, from, upto, sum, filter}
@@ -22,7 +22,7 @@ use Rattle.sequencing.proofs.Counting.{length-from}
 use Rattle.sequencing.proofs.Vectors.{at-sum}
 use Rattle.sequencing.proofs.AllJobs.{getD-map-from, at-all, length-all, sum-all}
 use Rattle.problem.specs.OfQueue.{problem}
-use Rattle.problem.proofs.Rule.{getD-tabulate, proper, few-jobs}
+use Rattle.problem.proofs.Rule.{proper, few-jobs}
 use Rattle.layout.specs.Prepared.{byKind, beginOf, bySlot, slotOf}
 use Rattle.layout.proofs.Blocks.{getD-filled, flat-long, flat-at, sum-front, sum-slots}
 
@@ -114,4 +114,4 @@ module _ (q : Queue) (v : Valid q) where
       by-slot-at =
           let e : 1 + (L - 1) ≡ L = omega arith in
           rw (← sum-slots f (K P) 1 (L - 1)) (flat-at (λ L. tabulate (f L) 0 (K P L + 1)) 1 (q .kinds) (L - 1) n (omega arith) (rw e (omega (arith, length-tabulate (f L) 0 (K P L + 1))))
-          ∙ rw e (getD-tabulate (f L) 0 (K P L + 1) n n (omega arith) (omega arith)))
+          ∙ rw e (tabulate-at (f L) 0 0 (K P L + 1) n (omega arith) ∙ ap (f L) (omega arith)))

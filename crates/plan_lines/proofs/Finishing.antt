@@ -29,10 +29,6 @@ pub at-past : (xs : List ℕ) (i : ℕ) → length xs < i → 0 ≡ at xs i
 at-past xs zero h = refl
 at-past xs (suc i) h = sym (List·getD-eq-default xs 0 (omega arith))
 
-pub at-within : (xs : List ℕ) (i : ℕ) → 1 ≤ i → getD xs (i - 1) 0 ≡ at xs i
-at-within xs zero h = absurd (omega arith)
-at-within xs (suc i) h = ap (λ (n : ℕ). getD xs n 0) (omega arith)
-
 -- a gap that the record does not have
 pub gap-none : (xs : List ℕ) (n i : ℕ) → n ≡ i → length xs ≤ n → 0 ≡ getD xs i 0
 gap-none xs n i e h = sym (List·getD-eq-default xs 0 (omega arith))

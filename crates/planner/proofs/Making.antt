@@ -23,14 +23,14 @@ use Rattle.sequencing.specs.Lists.{sum}
 use Rattle.sequencing.specs.Problem.{Problem}
 use Rattle.sequencing.specs.States.{allLeft}
 use Rattle.sequencing.specs.Least.{argLeast}
-use Rattle.sequencing.specs.Recursion.{choice, walk, planCost, planOrder}
+use Rattle.sequencing.specs.Recursion.{choice, planCost, planOrder}
 use Rattle.sequencing.specs.Counts.{feasibleStates}
-use Rattle.sequencing.specs.Entries.{digits, stored, FilledTable}
+use Rattle.sequencing.specs.Entries.{stored, FilledTable}
 use Rattle.problem.specs.OfQueue.{problem}
 use Rattle.problem.proofs.Queues.{cost-fits}
 use Rattle.layout.specs.declared.Layout.{Layout}
 use Rattle.layout.specs.Prepared.{Prepared}
-use Rattle.solver.specs.Following.{byHandInUpto}
+use Rattle.solver.specs.Following.{Followed}
 use Rattle.solver.proofs.Start.{all-jobs, last-is, order-is}
 use Rattle.best_order.specs.Endings.{solved, bestPlan}
 use Rattle.best_order.proofs.Plans.{valid-plan}
@@ -40,13 +40,7 @@ use Rattle.planner.proofs.Ends.{Ends}
 
 module _ {q : Queue} {l : Layout} (v : Valid q) (p : Prepared q l) (some-plan : planCost (problem q) ≡ none → ⊥) {first : ℕ}
     (first-is : 0 < q .jobs → first ≡ argLeast (choice (problem q) (q .start) (allLeft (problem q))) (q .kinds)) where
-  abbrev left : List ℕ
-  left = digits (allLeft (problem q)) (l .size .block - 1)
-
-  pub order-followed : {order : List ℕ}
-      → ((row : ℕ) → (0 < l .size .jobs → first ≡ argLeast (choice (problem q) row left) (q .kinds))
-      → order ≡ filled 60 (byHandInUpto (problem q) (l .counts) left (walk (problem q) (l .size .jobs) row left)))
-      → order ≡ filled 60 (planOrder (problem q))
+  pub order-followed : {order : List ℕ} → Followed q (l .counts) (l .size .block - 1) first (l .size .jobs) order → order ≡ filled 60 (planOrder (problem q))
   order-followed follows =
       let places : l .size .jobs ≡ sum (allLeft (problem q)) = p .jobs-are ∙ sym (all-jobs v) in
       follows (q .start) (λ h. rw (last-is v p) (first-is (omega (arith, p .jobs-are))))

@@ -4,26 +4,17 @@
 use mathlib.Core.Bool.{_&&_}
 use mathlib.Core.Logic.{_↔_}
 use mathlib.Core.Path.{_≡_, sym, ap, _∙_}
-use Prim.Native.Nat.{ℕ, zero, suc, _+_, _≤_, _<_}
+use Prim.Native.Nat.{ℕ, zero, suc, _+_, _≤_}
 use native.Mathlib.Omega.{arith}
 use lib.Dec.{T as Is, leb, leb→le, le→leb}
-use lib.ListN.{getD}
 use Rattle.sequencing.specs.Problem.{T, kind as kindIn, Proper, Exchange}
 use Rattle.sequencing.specs.Limits.{Limits}
 use Rattle.queue.specs.declared.Queue.{Queue}
 use Rattle.queue.specs.Record.{firstPlace, lastPlace, kind, Valid}
-use Rattle.fields.specs.Lists.{tabulate}
-use Rattle.fields.proofs.Tables.{length-tabulate}
+use Rattle.fields.proofs.Tables.{length-tabulate, tabulate-at}
 use Rattle.problem.specs.PlaceRule.{distance, allowed, earliest, latest}
 use Rattle.problem.specs.OfQueue.{problem}
 use Rattle.problem.proofs.Tests.{and-l, and-r, and, same-test}
-
--- the element i steps after f s is f (s + i)
-pub getD-tabulate : (f : ℕ → ℕ) (s n i j : ℕ) → s + i ≡ j → i < n → getD (tabulate f s n) i 0 ≡ f j
-unfolding tabulate
-getD-tabulate f s zero i j e h = absurd (omega arith)
-getD-tabulate f s (suc n) zero j e h = ap f (omega arith)
-getD-tabulate f s (suc n) (suc i) j e h = getD-tabulate f (suc s) n i j (omega arith) (omega arith)
 
 -- 01's sentence on job i at place p: at most m places late or early, and within the window of its kind
 record Allowed (q : Queue) (i p : ℕ) : Type 0 where
@@ -62,7 +53,7 @@ module _ (q : Queue) where
   -- and so is the kind of each of the T jobs
   pub kind-is : (i : ℕ) → 1 ≤ i → i ≤ T (problem q) → kindIn (problem q) i ≡ kind q i
   kind-is zero l u = absurd (omega arith)
-  kind-is (suc i) l u = getD-tabulate (kind q) 1 (q .jobs) i (suc i) (omega arith) (omega (arith, jobs-is))
+  kind-is (suc i) l u = tabulate-at (kind q) 0 1 (q .jobs) i (omega (arith, jobs-is)) ∙ ap (kind q) (omega arith)
 
   -- 01's place rule has the exchange law: by hand-in neither shift is above the greater of the two the other way round, and one kind has one window
   pub exchange : Exchange (problem q)

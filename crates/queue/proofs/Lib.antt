@@ -1,3 +1,1 @@
 pub mod Windows
-pub mod Chains
-pub mod SettingsRead

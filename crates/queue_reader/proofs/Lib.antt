@@ -1,3 +1,5 @@
+pub mod Chains
+pub mod SettingsRead
 pub mod Parts
 pub mod Loops
 pub mod Built

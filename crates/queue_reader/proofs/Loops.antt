@@ -16,7 +16,7 @@ use Rattle.fields.proofs.Orders.{kept, times-in-order}
 use Rattle.fields.proofs.Runs.{before-found}
 use Rattle.fields.proofs.Loops.{Looping, loop-none, loop-more}
 use Rattle.queue.specs.Reading.{window, placed}
-use Rattle.queue.proofs.Chains.{gapField}
+use Rattle.queue_reader.proofs.Chains.{gapField}
 
 -- before gap row `row`
 pub record Rows (s : List ℕ) (at kinds : ℕ) (gaps₀ gaps : List ℕ) (i row : ℕ) : Type 0 where

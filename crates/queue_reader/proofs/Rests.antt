@@ -18,7 +18,7 @@ use Rattle.fields.proofs.Runs.{before-found}
 use Rattle.queue.specs.declared.Queue.{Queue}
 use Rattle.queue.specs.declared.Settings.{Settings}
 use Rattle.queue.specs.Reading.{window, headOf, tables, jobs, closed, asReading}
-use Rattle.queue.proofs.Chains.{weightField, kindField, rowsAt, no-weights, no-windows, all-tables, no-kinds, left-over, all-jobs}
+use Rattle.queue_reader.proofs.Chains.{weightField, kindField, rowsAt, no-weights, no-windows, all-tables, no-kinds, left-over, all-jobs}
 use Rattle.queue_reader.specs.Answers.{asHead, limits, headEnding, readingEnding}
 use Rattle.queue_reader.proofs.Built.{withArray, jobs-are}
 

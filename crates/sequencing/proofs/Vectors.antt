@@ -3,7 +3,7 @@
 use mathlib.Core.List.{List, [], _∷_}
 use mathlib.Core.Logic.{inl, inr}
 use mathlib.Core.Path.{_≡_, refl, ap}
-use Prim.Native.Nat.{ℕ, zero, suc, pred, _+_, _≤_, _<_}
+use Prim.Native.Nat.{ℕ, zero, suc, pred, _+_, _-_, _≤_, _<_}
 use native.Mathlib.Nat.{suc-mul}
 use native.Mathlib.Omega.{arith}
 use lib.ListN.{length, getD, set, length-set}
@@ -11,6 +11,11 @@ use lib.Seq.{getD-set-same, getD-set-other}
 use Rattle.sequencing.specs.Lists.{at, sum, weigh, one}
 use Rattle.sequencing.specs.States.{complete}
 use Rattle.sequencing.proofs.Counting.{one-cases}
+
+-- the element at x, counted from 0
+pub at-minus : (xs : List ℕ) (x : ℕ) → 1 ≤ x → at xs x ≡ getD xs (x - 1) 0
+at-minus xs zero h = absurd (omega arith)
+at-minus xs (suc i) h = ap (λ (n : ℕ). getD xs n 0) (omega arith)
 
 set-sum : (k : List ℕ) (i : ℕ) → 0 < getD k i 0 → suc (sum (set k i (pred (getD k i 0)))) ≡ sum k
 unfolding sum

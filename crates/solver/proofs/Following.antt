@@ -1,8 +1,7 @@
 -- Following a filled table: what is left to follow, place by place.
 -- Assumes nothing.
-use Prim.Native.Nat.{ℕ, zero, suc, _+_, _-_, _≤_, _<_}
+use Prim.Native.Nat.{ℕ, suc, _+_, _-_, _≤_, _<_}
 use mathlib.Core.List.{List}
-use mathlib.Core.Option.{none}
 use mathlib.Core.Path.{_≡_, sym, ap, _∙_}
 use native.Mathlib.Numerals.{add-one}
 use native.Mathlib.Omega.{arith}
@@ -10,28 +9,23 @@ use lib.ListN.{getD, set, replicate}
 use lib.Seq.{sets}
 use Rattle.fields.specs.Lists.{filled}
 use Rattle.queue.specs.declared.Queue.{Queue}
-use Rattle.queue.specs.Record.{weight, Valid}
+use Rattle.queue.specs.Record.{weight}
 use Rattle.sequencing.specs.Lists.{at, sum, weigh}
 use Rattle.sequencing.specs.Problem.{Problem}
 use Rattle.sequencing.specs.States.{complete, K, allLeft, jobsOf}
 use Rattle.sequencing.specs.Least.{argLeast}
-use Rattle.sequencing.specs.Recursion.{value, choice, walk}
+use Rattle.sequencing.specs.Recursion.{choice}
 use Rattle.sequencing.specs.Entries.{stride}
 use Rattle.sequencing.proofs.Counting.{one-self}
-use Rattle.sequencing.proofs.Vectors.{complete-sum, complete-weigh, at-complete}
+use Rattle.sequencing.proofs.Vectors.{at-minus, complete-sum, complete-weigh, at-complete}
 use Rattle.problem.specs.OfQueue.{problem}
 use Rattle.jobs_left.specs.Steps.{LeftAt}
 use Rattle.jobs_left.proofs.LeftAt.{left-at, complete-digits, stride-earlier, left-complete}
 use Rattle.layout.specs.declared.Layout.{Layout}
-use Rattle.layout.specs.Prepared.{Prepared}
 use Rattle.layout.proofs.Prepared.{counts-at, stride-at, jobs-at, job-in}
 use Rattle.next_states.specs.declared.Least.{Least}
-use Rattle.solver.specs.Following.{byHandInUpto}
-use Rattle.solver.proofs.Walking.{kAt, Chosen, Takes, takes-next, found-after, walkBy, walk-by, by-hand-more, by-hand-none}
-
-at-minus : (xs : List ℕ) (x : ℕ) → 1 ≤ x → at xs x ≡ getD xs (x - 1) 0
-at-minus xs zero h = absurd (omega arith)
-at-minus xs (suc m) h = ap (λ i. getD xs i 0) (omega arith)
+use Rattle.solver.specs.Following.{kAt, byHandInUpto, Takes, Share, Followed}
+use Rattle.solver.proofs.Walking.{Chosen, takes-next, found-after, walkBy, walk-by, by-hand-more, by-hand-none}
 
 -- the jobs of n places with k left, the first of them of kind x
 abbrev pub jobsBy : Problem → List ℕ → ℕ → ℕ → List ℕ → List ℕ
@@ -47,15 +41,6 @@ pub record Following (q : Queue) (upto : List ℕ) (index first places : ℕ) (o
   pub rest : sets order place (jobsBy (problem q) upto (sum (kAt (problem q) i)) kind (kAt (problem q) i))
       ≡ filled 60 (jobsBy (problem q) upto places first (kAt (problem q) index))
 
--- a share of the queue: what is left where it begins, up to which job of each kind, and the first kind, which the caller has looked up
-pub record Share (q : Queue) (l : Layout) (from upto : List ℕ) (index first places : ℕ) : Type 0 where
-  pub valid : Valid q
-  pub prepared : Prepared q l
-  pub left-is : LeftAt (problem q) from index
-  pub within : (j : ℕ) → 1 ≤ j → j ≤ q .kinds → (at from j ≤ at upto j) × (at upto j ≤ at (l .counts) j)
-  pub all : places ≡ sum (kAt (problem q) index)
-  pub takes : 0 < places → (1 ≤ first) × ((first ≤ q .kinds) × ((0 < at from first) × (value (problem q) first (complete (kAt (problem q) index) first) ≡ none → ⊥)))
-
 module _ {q : Queue} {upto : List ℕ} {index first places : ℕ} where
   pub follow-none : {l : Layout} {from : List ℕ} {total : ℕ} → Share q l from upto index first places → total ≡ weigh (weight q) (kAt (problem q) index)
       → Following q upto index first places (replicate 60 0) from total first index 0
@@ -64,15 +49,13 @@ module _ {q : Queue} {upto : List ℕ} {index first places : ℕ} where
     weighs = weighs;
     within = λ j a b. s .within j a b .0;
     gone = omega (arith, s .all);
-    takes = λ h. let t = s .takes (omega (arith, s .all)) in
-        record { low = t .0; high = t .1 .0; some-left = omega (arith, left-at (s .left-is) first (t .0) (t .1 .0), t .1 .1 .0); found = t .1 .1 .1 };
+    takes = λ h. s .takes (omega (arith, s .all));
     rest = rw (← (s .all));
   }
 
   module _ {order left : List ℕ} {total kind i place : ℕ} (f : Following q upto index first places order left total kind i place) where
     -- the order followed, whatever row the first kind was looked up from
-    pub follow-done : places ≤ place → (row : ℕ) → (0 < places → first ≡ argLeast (choice (problem q) row (kAt (problem q) index)) (q .kinds))
-        → order ≡ filled 60 (byHandInUpto (problem q) upto (kAt (problem q) index) (walk (problem q) places row (kAt (problem q) index)))
+    pub follow-done : places ≤ place → Followed q upto index first places order
     follow-done h row e =
         rw (walk-by (problem q) places row (kAt (problem q) index) first e)
         (rw (by-hand-none (problem q) upto (sum (kAt (problem q) i)) kind (kAt (problem q) i) (omega (arith, f .gone))) at (f .rest))

@@ -26,7 +26,8 @@ use Rattle.next_states.specs.declared.Least.{Least}
 use Rattle.next_states.specs.NextStates.{nextValues, candidate, Loadable, Ready, IsLeast}
 use Rattle.filling.specs.Filling.{Earlier}
 use Rattle.filling.proofs.Values.{Look, loadable, ready, least-is, taken-is}
-use Rattle.solver.proofs.Walking.{kAt, Chosen}
+use Rattle.solver.specs.Following.{kAt}
+use Rattle.solver.proofs.Walking.{Chosen}
 
 -- no more jobs are left than there are
 pub few-left : {q : Queue} → Valid q → (i : ℕ) → sum (kAt (problem q) i) ≤ 60

@@ -11,9 +11,9 @@ use Rattle.fields.proofs.Arrays.{filled-past}
 use Rattle.queue.specs.declared.Queue.{Queue}
 use Rattle.queue.specs.Record.{Valid}
 use Rattle.sequencing.specs.Lists.{at, sum}
-use Rattle.sequencing.specs.States.{complete, allLeft}
+use Rattle.sequencing.specs.States.{allLeft}
 use Rattle.sequencing.specs.Least.{argLeast}
-use Rattle.sequencing.specs.Recursion.{value, choice, walk, planCost, planKinds, planOrder}
+use Rattle.sequencing.specs.Recursion.{choice, walk, planCost, planKinds, planOrder}
 use Rattle.sequencing.specs.Entries.{size, index, digits, stored}
 use Rattle.sequencing.proofs.AllJobs.{length-all, all-left, sum-all}
 use Rattle.sequencing.proofs.Radix.{size-pos, digits-index}
@@ -26,8 +26,9 @@ use Rattle.layout.specs.declared.Layout.{Layout}
 use Rattle.layout.specs.Prepared.{Prepared}
 use Rattle.layout.proofs.Prepared.{counts-at, counts-take, counts-long}
 use Rattle.next_states.specs.declared.Least.{Least}
-use Rattle.solver.specs.Following.{byHandInUpto}
-use Rattle.solver.proofs.Walking.{some-cost, kAt, Chosen, takes-next, upto-all}
+use Rattle.solver.specs.Solving.{FirstChoice}
+use Rattle.solver.specs.Following.{Takes, byHandInUpto, kAt}
+use Rattle.solver.proofs.Walking.{some-cost, Chosen, takes-next, upto-all}
 
 index-last : (cs : List ℕ) → suc (index cs cs) ≡ size cs
 unfolding index size
@@ -63,23 +64,23 @@ module _ {q : Queue} {l : Layout} (v : Valid q) (p : Prepared q l) where
   start-places = rw last-is (sym (all-jobs v))
 
   -- what is found there is the plan's cost and its first kind
-  pub first-choice : 0 < q .jobs → {r : Least} → Chosen (problem q) (q .start) (kAt (problem q) (l .size .block - 1)) r
-      → (r .cost ≡ stored (planCost (problem q)))
-      × ((0 < q .jobs → (planCost (problem q) ≡ none → ⊥) → r .kind ≡ argLeast (choice (problem q) (q .start) (allLeft (problem q))) (q .kinds))
-      × ((planCost (problem q) ≡ none → r .kind ≡ 0) × (q .jobs ≡ 0 → r .kind ≡ 0)))
+  pub first-choice : 0 < q .jobs → {r : Least} → Chosen (problem q) (q .start) (kAt (problem q) (l .size .block - 1)) r → FirstChoice q r
   first-choice h chosen =
       let f = rw last-is at chosen in
       let e = plan-some-jobs q v h in
-      (f .cost-is ∙ ap stored (sym e), (λ _ some-plan. let (c, g) = some-cost (planCost (problem q)) some-plan in f .kind-is c (sym e ∙ g), (λ n. f .no-kind (sym e ∙ n), λ z. absurd (omega arith))))
+      record {
+        cost-is = f .cost-is ∙ ap stored (sym e);
+        kind-is = λ _ some-plan. let (c, g) = some-cost (planCost (problem q)) some-plan in f .kind-is c (sym e ∙ g);
+        no-plan = λ n. f .no-kind (sym e ∙ n);
+        no-jobs = λ z. absurd (omega arith);
+      }
 
   module _ (some-plan : planCost (problem q) ≡ none → ⊥) where
     -- the first kind can be taken
-    pub start-takes : (x : ℕ) → 0 < q .jobs → x ≡ argLeast (choice (problem q) (q .start) (allLeft (problem q))) (q .kinds)
-        → (1 ≤ x) × ((x ≤ q .kinds) × ((0 < at (l .counts) x) × (value (problem q) x (complete (kAt (problem q) (l .size .block - 1)) x) ≡ none → ⊥)))
+    pub start-takes : (x : ℕ) → 0 < q .jobs → x ≡ argLeast (choice (problem q) (q .start) (allLeft (problem q))) (q .kinds) → Takes (problem q) (kAt (problem q) (l .size .block - 1)) x
     start-takes x h e =
         let (c, f) = some-cost (planCost (problem q)) some-plan in
-        let t = rw (← e) at (takes-next (problem q) (q .start) (allLeft (problem q)) c (sym (plan-some-jobs q v h) ∙ f)) in
-        rw last-is (t .low, (t .high, (omega (arith, counts-at v p x (t .low), all-left (problem q) .within x, t .some-left), t .found)))
+        rw (last-is, e) (takes-next (problem q) (q .start) (allLeft (problem q)) c (sym (plan-some-jobs q v h) ∙ f))
 
     -- the jobs of the walk from the start, all of each kind, are the plan's order
     pub order-is : byHandInUpto (problem q) (l .counts) (allLeft (problem q)) (walk (problem q) (sum (allLeft (problem q))) (q .start) (allLeft (problem q))) ≡ planOrder (problem q)

@@ -7,10 +7,10 @@ use mathlib.Core.Path.{_≡_, refl, sym, _∙_}
 use native.Mathlib.Omega.{arith}
 use Rattle.sequencing.specs.Lists.{at, sum}
 use Rattle.sequencing.specs.Problem.{Problem}
-use Rattle.sequencing.specs.States.{complete, K, allLeft, IsLeft, jobsOf, byHandIn}
+use Rattle.sequencing.specs.States.{complete, K, IsLeft, jobsOf, byHandIn}
 use Rattle.sequencing.specs.Least.{least, argLeast}
 use Rattle.sequencing.specs.Recursion.{value, choice, walk}
-use Rattle.sequencing.specs.Entries.{digits, stored}
+use Rattle.sequencing.specs.Entries.{stored}
 use Rattle.sequencing.proofs.Equations.{cost-some-left}
 use Rattle.sequencing.proofs.Fills.{Fills}
 use Rattle.sequencing.proofs.JobsLeft.{complete-left}
@@ -18,32 +18,21 @@ use Rattle.sequencing.proofs.Least.{smallest}
 use Rattle.sequencing.proofs.Recursion.{value-some, choice-some}
 use Rattle.sequencing.proofs.Vectors.{complete-sum, at-in}
 use Rattle.next_states.specs.declared.Least.{Least}
-use Rattle.solver.specs.Following.{byHandInUpto}
+use Rattle.solver.specs.Following.{byHandInUpto, Takes}
 
 pub some-cost : (r : Option ℕ) → (r ≡ none → ⊥) → (c : ℕ) × (r ≡ some c)
 some-cost none h = absurd (h refl)
 some-cost (some c) h = (c, refl)
 
 module _ (P : Problem) where
-  -- the jobs left at an index
-  abbrev pub kAt : ℕ → List ℕ
-  kAt i = digits (allLeft P) i
-
   -- the recursion's choice from (L; k) on as it is answered: its cost, and its kind, 0 where there is none
   pub record Chosen (L : ℕ) (k : List ℕ) (r : Least) : Type 0 where
     pub cost-is : r .cost ≡ stored (least (choice P L k) (P .N))
     pub kind-is : (c : ℕ) → least (choice P L k) (P .N) ≡ some c → r .kind ≡ argLeast (choice P L k) (P .N)
     pub no-kind : least (choice P L k) (P .N) ≡ none → r .kind ≡ 0
 
-  -- a kind that can be taken next with k left: a job of it is left, and the state then is feasible
-  pub record Takes (k : List ℕ) (x : ℕ) : Type 0 where
-    pub low : 1 ≤ x
-    pub high : x ≤ P .N
-    pub some-left : 0 < at k x
-    pub found : value P x (complete k x) ≡ none → ⊥
-
   -- the recursion's next kind, where it finds something
-  pub takes-next : (L : ℕ) (k : List ℕ) (c : ℕ) → least (choice P L k) (P .N) ≡ some c → Takes k (argLeast (choice P L k) (P .N))
+  pub takes-next : (L : ℕ) (k : List ℕ) (c : ℕ) → least (choice P L k) (P .N) ≡ some c → Takes P k (argLeast (choice P L k) (P .N))
   takes-next L k c e =
       let m = smallest (choice P L k) (P .N) c e in
       let (d, h, v, _) = choice-some P L k (argLeast (choice P L k) (P .N)) c (m .reached) in
@@ -55,7 +44,7 @@ module _ (P : Problem) where
       }
 
   -- after a kind that can be taken the recursion finds something
-  pub found-after : (k : List ℕ) (x : ℕ) → Takes k x → 0 < sum (complete k x) → (c : ℕ) × (least (choice P x (complete k x)) (P .N) ≡ some c)
+  pub found-after : (k : List ℕ) (x : ℕ) → Takes P k x → 0 < sum (complete k x) → (c : ℕ) × (least (choice P x (complete k x)) (P .N) ≡ some c)
   found-after k x t h =
       let (c, e) = some-cost (value P x (complete k x)) (t .found) in
       (c, sym (cost-some-left P x (complete k x) h) ∙ value-some P x (complete k x) c e .2)

@@ -1,1 +1,2 @@
+pub mod Solving
 pub mod Following

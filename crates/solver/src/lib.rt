@@ -3,22 +3,16 @@ use layout::Layout;
 use next_states::Least;
 use queue::Queue;
 ghost use mathlib.Core.Path.{_≡_};
-ghost use mathlib.Core.Option.{none};
-ghost use Prim.Native.Nat.{ℕ, _+_, _-_, _≤_, _<_};
+ghost use Prim.Native.Nat.{_+_, _-_, _≤_, _<_};
 ghost use lib.ListN.{length, getD, set};
-ghost use Rattle.fields.specs.Lists.{filled};
 ghost use Rattle.queue.specs.Record.{Valid};
-ghost use Rattle.sequencing.specs.Lists.{at, sum};
-ghost use Rattle.sequencing.specs.States.{allLeft, complete};
-ghost use Rattle.sequencing.specs.Least.{argLeast};
-ghost use Rattle.sequencing.specs.Recursion.{value, choice, walk, planCost};
-ghost use Rattle.sequencing.specs.Entries.{digits, block, entries, stored, FilledTable};
+ghost use Rattle.sequencing.specs.Entries.{block, entries, FilledTable};
 ghost use Rattle.sequencing.specs.Counts.{feasibleStates};
 ghost use Rattle.problem.specs.OfQueue.{problem};
-ghost use Rattle.jobs_left.specs.Steps.{LeftAt};
 ghost use Rattle.layout.specs.Prepared.{Prepared};
 ghost use Rattle.filling.specs.Filling.{Earlier};
-ghost use Rattle.solver.specs.Following.{byHandInUpto};
+ghost use Rattle.solver.specs.Solving.{FirstChoice};
+ghost use Rattle.solver.specs.Following.{Share, Followed};
 
 // The first choice from the start, whose cost is the plan's (NONE where no order is permitted), and the feasible states.
 pub struct Solution {
@@ -29,9 +23,7 @@ pub struct Solution {
 // The first choice by a filled table: the plan's cost and its first kind, 0 where there is none.
 fn first_choice(queue: Queue, layout: Layout, table: &[u64]) -> Least
     requires { ⌜ Valid queue × (Prepared queue layout × (Earlier (problem queue) (now table) (block (problem queue)) × (entries (problem queue) ≤ length (now table)))) ⌝ }
-    ensures { λ r. ⌜ r .cost ≡ stored (planCost (problem queue)) ⌝ }
-    ensures { λ r. ⌜ (0 < queue .jobs → (planCost (problem queue) ≡ none → ⊥) → r .kind ≡ argLeast (choice (problem queue) (queue .start) (allLeft (problem queue))) (queue .kinds)) ⌝ }
-    ensures { λ r. ⌜ (planCost (problem queue) ≡ none → r .kind ≡ 0) × (queue .jobs ≡ 0 → r .kind ≡ 0) ⌝ }
+    ensures { λ r. ⌜ FirstChoice queue r ⌝ }
 {
     if queue.jobs == 0 {
         return Least { cost: 0, kind: 0 };
@@ -59,9 +51,7 @@ fn first_choice(queue: Queue, layout: Layout, table: &[u64]) -> Least
 pub fn solve(queue: Queue, layout: Layout, table: &mut [u64]) -> Solution
     requires { ⌜ Valid queue × (Prepared queue layout × (entries (problem queue) ≤ length (now table))) ⌝ }
     ensures { λ _. ⌜ FilledTable (problem queue) (now (table .entry)) (now (table .exit)) ⌝ }
-    ensures { λ r. ⌜ r .first .cost ≡ stored (planCost (problem queue)) ⌝ }
-    ensures { λ r. ⌜ (0 < queue .jobs → (planCost (problem queue) ≡ none → ⊥) → r .first .kind ≡ argLeast (choice (problem queue) (queue .start) (allLeft (problem queue))) (queue .kinds)) ⌝ }
-    ensures { λ r. ⌜ (planCost (problem queue) ≡ none → r .first .kind ≡ 0) × (queue .jobs ≡ 0 → r .first .kind ≡ 0) ⌝ }
+    ensures { λ r. ⌜ FirstChoice queue (r .first) ⌝ }
     ensures { λ r. ⌜ r .«feasible_states» ≡ feasibleStates (problem queue) ⌝ }
 {
     let feasible_states = filling::fill(queue, layout, table);
@@ -95,8 +85,8 @@ pub fn follow(
     first: usize,
     places: usize,
 ) -> [u8; 60]
-    requires { ⌜ Valid queue × (Prepared queue layout × (Earlier (problem queue) (now table) (block (problem queue)) × ((entries (problem queue) ≤ length (now table)) × (LeftAt (problem queue) from index × (((j : ℕ) → 1 ≤ j → j ≤ queue .kinds → (at from j ≤ at upto j) × (at upto j ≤ at (layout .counts) j)) × ((places ≡ sum (digits (allLeft (problem queue)) index)) × (0 < places → (1 ≤ first) × ((first ≤ queue .kinds) × ((0 < at from first) × (value (problem queue) first (complete (digits (allLeft (problem queue)) index) first) ≡ none → ⊥)))))))))) ⌝ }
-    ensures { λ r. ⌜ ((row : ℕ) → (0 < places → first ≡ argLeast (choice (problem queue) row (digits (allLeft (problem queue)) index)) (queue .kinds)) → r ≡ filled 60 (byHandInUpto (problem queue) upto (digits (allLeft (problem queue)) index) (walk (problem queue) places row (digits (allLeft (problem queue)) index)))) ⌝ }
+    requires { ⌜ Share queue layout from upto index first places × (Earlier (problem queue) (now table) (block (problem queue)) × (entries (problem queue) ≤ length (now table))) ⌝ }
+    ensures { λ r. ⌜ Followed queue upto index first places r ⌝ }
 {
     let size = layout.size;
     let gaps = queue.gaps;

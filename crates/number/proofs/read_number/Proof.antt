@@ -18,34 +18,41 @@ abbrev μ-loop : tie.MeasureT-loop
 returns : tie.Need-returns Inv-loop μ-loop
 returns c = reading-ends _ _ _ _ _ _ _ (c .before .before .loop .inv) (c .before .loop-test .taken) (c .if1 .taken)
 
+-- the places, from where the byte's group is put above the value: the turn of the loop, and with a byte there
+abbrev turn : tie.After-with-group Inv-loop μ-loop → tie.In-loop Inv-loop μ-loop
+turn w = w .before .before .before .before
+
+abbrev there : tie.After-with-group Inv-loop μ-loop → tie.Else1 Inv-loop μ-loop
+there w = w .before .before .before
+
 -- what stands at i is a byte
-byte : (c : tie.After-with-group Inv-loop μ-loop) → getD (c .before .before .before .before .before .before .before .args .bytes .now) (c .before .before .before .before .before .loop .i) 0 < 256
-byte c = c .before .before .shared-slice-known2 .given (c .before .before .before .before .before .loop .i) .fits
+byte : (w : tie.After-with-group Inv-loop μ-loop) → getD (turn w .before .before .before .args .bytes .now) (turn w .before .loop .i) 0 < 256
+byte w = w .before .before .shared-slice-known2 .given (turn w .before .loop .i) .fits
 
 returns-2 : tie.Need-returns-2 Inv-loop μ-loop
 returns-2 c =
-    let in-loop = c .before .before .before .before .before .before .before in
-    reading-zero _ _ _ _ _ _ _ (in-loop .before .loop .inv) (in-loop .loop-test .taken) (c .before .before .before .before .before .before .if1 .left) (c .before .if3 .taken) (c .if4 .taken)
+    let w = c .before .before .before in
+    reading-zero _ _ _ _ _ _ _ (turn w .before .loop .inv) (turn w .loop-test .taken) (there w .if1 .left) (c .before .if3 .taken) (c .if4 .taken)
 
 returns-3 : tie.Need-returns-3 Inv-loop μ-loop
 returns-3 c =
-    let in-loop = c .before .before .before .before .before .before .before in
-    rw (c .before .before .before .with-group .ensures, c .before .before .before .before .group .ensures)
-    (reading-last _ _ _ _ _ _ _ (in-loop .before .loop .inv) (in-loop .loop-test .taken) (c .before .before .before .before .before .before .if1 .left) (omega arith) (λ _. omega arith))
+    let w = c .before .before .before in
+    rw (w .with-group .ensures, w .before .group .ensures)
+    (reading-last _ _ _ _ _ _ _ (turn w .before .loop .inv) (turn w .loop-test .taken) (there w .if1 .left) (omega arith) (λ _. omega arith))
 
 returns-4 : tie.Need-returns-4 Inv-loop μ-loop
 returns-4 c =
-    let in-loop = c .before .before .before .before .before .before in
-    rw (c .before .before .with-group .ensures, c .before .before .before .group .ensures)
-    (reading-last _ _ _ _ _ _ _ (in-loop .before .loop .inv) (in-loop .loop-test .taken) (c .before .before .before .before .before .if1 .left)
-    (bit-clear _ (byte (c .before .before)) (c .before .if2 .taken)) (λ z. absurd (c .if3 .left z)))
+    let w = c .before .before in
+    rw (w .with-group .ensures, w .before .group .ensures)
+    (reading-last _ _ _ _ _ _ _ (turn w .before .loop .inv) (turn w .loop-test .taken) (there w .if1 .left)
+    (bit-clear _ (byte w) (c .before .if2 .taken)) (λ z. absurd (c .if3 .left z)))
 
 loop-again : tie.Need-loop-again Inv-loop μ-loop
 loop-again c =
-    let in-loop = c .before .before .before .before .before in
-    rw (c .before .with-group .ensures, c .before .before .group .ensures)
-    (reading-more _ _ _ _ _ _ _ (in-loop .before .loop .inv) (in-loop .loop-test .taken) (c .before .before .before .before .if1 .left)
-    (bit-set _ (byte (c .before)) (c .if2 .left)) (byte (c .before)))
+    let w = c .before in
+    rw (w .with-group .ensures, w .before .group .ensures)
+    (reading-more _ _ _ _ _ _ _ (turn w .before .loop .inv) (turn w .loop-test .taken) (there w .if1 .left)
+    (bit-set _ (byte w) (c .if2 .left)) (byte w))
 
 pub read-number-spec : {M : Type 1} → statement M
 read-number-spec =

@@ -24,7 +24,7 @@ solved : (c : tie.After-solve)
     → Solved (entry c .args .queue) (entry c .args .table .now) (c .solve .last .1 .1 .0) (c .solve .result .first .cost) (c .solve .result .«feasible_states»)
 solved c =
     let told = c .solve .ensures in
-    record { valid = entry c .pre .0; fills = told .0; cost-is = told .1 .0; states-are = told .1 .1 .1 .1 }
+    record { valid = entry c .pre .0; fills = told .0; cost-is = told .1 .0 .cost-is; states-are = told .1 .1 }
 
 -- where it is solved, from where a cost was found
 abbrev solved-at : tie.Else1 → tie.After-solve
@@ -36,7 +36,7 @@ some-plan c = some-order (solved (solved-at c)) (c .if1 .left)
 -- the first kind is the recursion's
 first-is : (c : tie.Else1) → let q = entry (solved-at c) .args .queue in
     0 < q .jobs → solved-at c .solve .result .first .kind ≡ argLeast (choice (problem q) (q .start) (allLeft (problem q))) (q .kinds)
-first-is c h = solved-at c .solve .ensures .1 .1 .0 h (some-plan c)
+first-is c h = solved-at c .solve .ensures .1 .0 .kind-is h (some-plan c)
 
 -- where a cost was found, from where the order is followed
 abbrev found-at : tie.After-follow → tie.Else1
@@ -68,26 +68,15 @@ follow-requires c κs =
     let jobs = p .jobs-are in
     let room = start .pre .1 .1 .0 in
     let long = s .fills .long in (
-      v,
-      (
-        p,
-        (
-          all-filled (s .fills),
-          (
-            omega arith,
-            (
-              start-left v p,
-              (
-                (λ j l u. (omega arith, omega arith)),
-                (
-                  jobs ∙ start-places v p,
-                  λ h. start-takes v p (some-plan found) _ (omega arith) (first-is found (omega arith)),
-                ),
-              ),
-            ),
-          ),
-        ),
-      ),
+      record {
+        valid = v;
+        prepared = p;
+        left-is = start-left v p;
+        within = λ j l u. (omega arith, omega arith);
+        all = jobs ∙ start-places v p;
+        takes = λ h. start-takes v p (some-plan found) _ (omega arith) (first-is found (omega arith));
+      },
+      (all-filled (s .fills), omega arith),
     )
 
 returns-2 : tie.Need-returns-2

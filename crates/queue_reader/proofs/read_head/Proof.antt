@@ -3,8 +3,8 @@
 use mathlib.Core.Path.{_≡_, sym, ap, _∙_}
 use Rattle.number.specs.Readers.{found}
 use Rattle.queue.specs.Reading.{settings}
-use Rattle.queue.proofs.SettingsRead.{settings-ok}
-use Rattle.queue.proofs.Chains.{no-settings, the-head}
+use Rattle.queue_reader.proofs.SettingsRead.{settings-ok}
+use Rattle.queue_reader.proofs.Chains.{no-settings, the-head}
 use Rattle.queue_reader.specs.Answers.{asHead}
 use Rattle.queue_reader.proofs.Parts.{as-known, as-unknown}
 use borrow.Author.Needs.{needs}

@@ -9,7 +9,7 @@ use Rattle.number.specs.Readers.{found}
 use Rattle.fields.specs.Fields.{field, within}
 use Rattle.fields.proofs.Judged.{as-value, as-refused, field-found, within-true}
 use Rattle.queue.specs.Reading.{asReading}
-use Rattle.queue.proofs.Chains.{no-count}
+use Rattle.queue_reader.proofs.Chains.{no-count}
 use Rattle.queue_reader.proofs.Rests.{jobs-end}
 use borrow.Author.Needs.{needs}
 use Rattle.queue_reader.proofs.read_jobs.Statement.{statement}

@@ -8,7 +8,7 @@ use Rattle.number.proofs.Steps.{not-found}
 use Rattle.fields.specs.Answers.{asOutcome}
 use Rattle.fields.proofs.Judged.{as-next, as-stopped}
 use Rattle.fields.proofs.Runs.{before-found}
-use Rattle.queue.proofs.Chains.{weightField}
+use Rattle.queue_reader.proofs.Chains.{weightField}
 use Rattle.queue_reader.proofs.Rests.{no-limits, limits-end, limits-found}
 use borrow.Author.Needs.{needs}
 use Rattle.queue_reader.proofs.read_limits.Statement.{statement}

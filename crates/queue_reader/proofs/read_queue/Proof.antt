@@ -13,8 +13,8 @@ use Rattle.fields.proofs.Judged.{as-value, as-refused}
 use Rattle.queue_reader.specs.declared.Head.{Head}
 use Rattle.queue_reader.specs.Answers.{asHead}
 use Rattle.queue.specs.Reading.{head, asReading, readQueue}
-use Rattle.queue.proofs.Chains.{no-opening, no-edition, no-head, the-queue}
-use Rattle.queue.proofs.SettingsRead.{head-kinds}
+use Rattle.queue_reader.proofs.Chains.{no-opening, no-edition, no-head, the-queue}
+use Rattle.queue_reader.proofs.SettingsRead.{head-kinds}
 use Rattle.queue_reader.proofs.Parts.{as-head, as-no-head}
 use borrow.Author.Needs.{needs}
 use Rattle.queue_reader.proofs.read_queue.Statement.{statement}

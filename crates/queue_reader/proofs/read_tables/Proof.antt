@@ -2,7 +2,7 @@
 -- Assumes nothing.
 use mathlib.Core.Path.{sym, ap, _∙_}
 use Rattle.fields.proofs.Judged.{as-next, as-stopped}
-use Rattle.queue.proofs.Chains.{rowsAt, no-rows}
+use Rattle.queue_reader.proofs.Chains.{rowsAt, no-rows}
 use Rattle.queue_reader.specs.Answers.{asHead}
 use Rattle.queue_reader.proofs.Built.{head-is}
 use Rattle.queue_reader.proofs.Rests.{tables-end}

@@ -10,7 +10,7 @@ use Rattle.problem.specs.OfQueue.{problem}
 use Rattle.problem.proofs.Queues.{plan-no-jobs}
 use Rattle.layout.proofs.Prepared.{strides-long}
 use Rattle.filling.proofs.Values.{Look}
-use Rattle.solver.proofs.Walking.{kAt}
+use Rattle.solver.specs.Following.{kAt}
 use Rattle.solver.proofs.Looking.{may-weigh, weighed, whole, may-look, looked}
 use Rattle.solver.proofs.Start.{some-block, start-left, first-choice}
 use borrow.Author.Needs.{needs}
@@ -41,7 +41,12 @@ weighs : (c : tie.After-weight-left) → let e = entry (c .before) .args in c .w
 weighs c = let p = entry (c .before) .pre in weighed (p .0) (p .1 .0) (start-left (p .0) (p .1 .0)) (c .weight-left .ensures)
 
 returns : tie.Need-returns
-returns c = (sym (ap stored (plan-no-jobs _ (c .before .before .before .pre .0) (c .if1 .taken))), (λ h _. absurd (omega (arith, c .if1 .taken)), (λ _. refl, λ _. refl)))
+returns c = record {
+  cost-is = sym (ap stored (plan-no-jobs _ (c .before .before .before .pre .0) (c .if1 .taken)));
+  kind-is = λ h _. absurd (omega (arith, c .if1 .taken));
+  no-plan = λ _. refl;
+  no-jobs = λ _. refl;
+}
 
 weight-left-requires : tie.Need-weight-left-requires
 weight-left-requires c κs = let p = entry c .pre in may-weigh (p .0) (p .1 .0) (start-left (p .0) (p .1 .0)) (sized (entry c) .0)

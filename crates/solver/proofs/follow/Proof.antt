@@ -7,7 +7,7 @@ use lib.ListN.{length, getD}
 use Rattle.layout.proofs.Prepared.{begins-long, jobs-long, strides-long}
 use Rattle.filling.proofs.Values.{Look}
 use Rattle.solver.proofs.Looking.{few-left, may-weigh, weighed, whole, may-look, looked}
-use Rattle.solver.proofs.Following.{Following, Share, Turn, follow-none, follow-done, takes-now, job-left, left-within, job-there, stride-within, weight-within, left-then, weighs-then, follow-more}
+use Rattle.solver.proofs.Following.{Following, Turn, follow-none, follow-done, takes-now, job-left, left-within, job-there, stride-within, weight-within, left-then, weighs-then, follow-more}
 use borrow.Author.Needs.{needs}
 use Rattle.solver.proofs.follow.Statement.{statement}
 use Rattle.solver.proofs.follow.Tie as tie
@@ -42,38 +42,30 @@ looking c = c .before .before .before .before
 sized : (c : tie.Start Inv-loop μ-loop) → (length (c .args .queue .weights) ≡ 5) × ((length (c .args .queue .gaps) ≡ 30) × (length (c .args .t5) ≡ 5))
 sized c = (search needs, (search needs, search needs))
 
--- the `requires` by name
-share : (c : tie.Start Inv-loop μ-loop)
-    → let a = c .args in
-    Share (a .queue) (a .layout) (a .from) (a .t5) (a .index) (a .first) (a .places)
-share c =
-    let p = c .pre .1 .1 .1 .1 in
-    record { valid = c .pre .0; prepared = c .pre .1 .0; left-is = p .0; within = p .1 .0; all = p .1 .1 .0; takes = p .1 .1 .1 }
-
 turn-of : (c : tie.In-loop Inv-loop μ-loop)
     → let a = entry (turn c) .args in
     let t = turn c .loop in
     Turn (a .queue) (a .layout) (a .from) (a .t5) (a .index) (a .first) (a .places) (t .order) (t .left) (t .weight) (t .kind) (t .at) (t .place)
-turn-of c = record { share = share (entry (turn c)); so-far = turn c .loop .inv; more = c .loop-test .taken }
+turn-of c = record { share = entry (turn c) .pre .0; so-far = turn c .loop .inv; more = c .loop-test .taken }
 
 kind-in : (c : tie.In-loop Inv-loop μ-loop) → (1 ≤ turn c .loop .kind) × (turn c .loop .kind ≤ 5)
-kind-in c = let t = takes-now (turn-of c) in (t .low, omega (arith, t .high, share (entry (turn c)) .valid .kinds))
+kind-in c = let t = takes-now (turn-of c) in (t .low, omega (arith, t .high, entry (turn c) .pre .0 .valid .kinds))
 
 place-in : (c : tie.In-loop Inv-loop μ-loop) → turn c .loop .place < 60
-place-in c = let s = share (entry (turn c)) in omega (arith, c .loop-test .taken, few-left (s .valid) (entry (turn c) .args .index), s .all)
+place-in c = let s = entry (turn c) .pre .0 in omega (arith, c .loop-test .taken, few-left (s .valid) (entry (turn c) .args .index), s .all)
 
 look : (c : tie.After-left3 Inv-loop μ-loop) → let t = turn (taken c) in
     Look (entry t .args .queue) (entry t .args .layout) (entry t .args .table .now) (c .before .take-job .last .0) (t .loop .at - getD (entry t .args .layout .strides) (t .loop .kind - 1) 0)
 look c =
     let e = entry (turn (taken c)) in
-    whole (share e .valid) (share e .prepared) (left-then (turn-of (taken c)) (c .before .take-job .ensures .1)) (sized e .1 .0) (e .pre .1 .1 .0) (e .pre .1 .1 .1 .0)
+    whole (e .pre .0 .valid) (e .pre .0 .prepared) (left-then (turn-of (taken c)) (c .before .take-job .ensures .1)) (sized e .1 .0) (e .pre .1 .0) (e .pre .1 .1)
 
 weight-left-requires : tie.Need-weight-left-requires Inv-loop μ-loop
-weight-left-requires c κs = let e = copied (c .before .before .before) in may-weigh (share e .valid) (share e .prepared) (share e .left-is) (sized e .0)
+weight-left-requires c κs = let e = copied (c .before .before .before) in may-weigh (e .pre .0 .valid) (e .pre .0 .prepared) (e .pre .0 .left-is) (sized e .0)
 
 loop-holds : tie.Need-loop-holds Inv-loop μ-loop
 loop-holds c =
-    let s = share (copied (c .before .before .before .before)) in
+    let s = copied (c .before .before .before .before) .pre .0 in
     follow-none s (weighed (s .valid) (s .prepared) (s .left-is) (c .weight-left .ensures))
 
 slice-aggregate-take-job-3 : tie.Need-slice-aggregate-take-job-3 Inv-loop μ-loop

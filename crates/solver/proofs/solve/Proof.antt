@@ -20,10 +20,7 @@ first-choice-requires c κs =
     (p .0, (p .1 .0, (all-filled f, omega (arith, f .long, p .1 .1))))
 
 returns : tie.Need-returns
-returns c =
-    let filled = looking (c .before) .fill .ensures in
-    let first = c .first-choice .ensures in
-    (filled .0, (first .0, (first .1 .0, (first .1 .1, filled .1))))
+returns c = let filled = looking (c .before) .fill .ensures in (filled .0, (c .first-choice .ensures, filled .1))
 
 pub solve-spec : {M : Type 1} → statement M
 solve-spec =

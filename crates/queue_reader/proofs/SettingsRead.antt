@@ -8,10 +8,10 @@ use Rattle.number.specs.Readers.{found, times}
 use Rattle.number.proofs.Steps.{went-on, found-value}
 use Rattle.fields.specs.Fields.{field, within}
 use Rattle.fields.proofs.Judged.{field-found, within-true}
 use Rattle.queue.specs.declared.Queue.{Queue}
 use Rattle.queue.specs.declared.Settings.{Settings}
 use Rattle.queue.specs.Reading.{window, settings, tables, head}
-use Rattle.queue.proofs.Chains.{gapField, weightField}
+use Rattle.queue_reader.proofs.Chains.{gapField, weightField}
 
 -- 01's bounds on N, goal, shift and start
 pub record SettingsOk (f : Settings) : Type 0 where
