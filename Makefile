@@ -28,7 +28,7 @@ endif
 test:
 	@said=$$(mktemp) && trap 'rm -f "$$said"' EXIT && { rt ci; echo $$? > "$$said.status"; } | tee "$$said" | sed -u '$$d'; \
 		status=$$(cat "$$said.status"); rm -f "$$said.status"; \
-		if [ "$$status" -ne 0 ]; then tail -n 1 "$$said"; exit "$$status"; fi; \
+		if [ "$$status" != 0 ]; then tail -n 1 "$$said"; exit 1; fi; \
 		$(MAKE) --no-print-directory c-test && tail -n 1 "$$said"
 
 # target/lib/libkippertarn.a and target/include/kippertarn.h, with a pkg-config file
