@@ -30,7 +30,8 @@ use Rattle.problem.specs.OfQueue.{problem}
 use Rattle.problem.proofs.Queues.{cost-fits}
 use Rattle.layout.specs.declared.Layout.{Layout}
 use Rattle.layout.specs.Prepared.{Prepared}
-use Rattle.solver.specs.Following.{Followed}
+use Rattle.solver.specs.Following.{kAt, byHandInUpto, Followed}
+use Rattle.solver.proofs.Walking.{walk-by}
 use Rattle.solver.proofs.Start.{all-jobs, last-is, order-is}
 use Rattle.best_order.specs.Endings.{solved, bestPlan}
 use Rattle.best_order.proofs.Plans.{valid-plan}
@@ -43,7 +44,11 @@ module _ {q : Queue} {l : Layout} (v : Valid q) (p : Prepared q l) (some-plan : 
   pub order-followed : {order : List ℕ} → Followed q (l .counts) (l .size .block - 1) first (l .size .jobs) order → order ≡ filled 60 (planOrder (problem q))
   order-followed follows =
       let places : l .size .jobs ≡ sum (allLeft (problem q)) = p .jobs-are ∙ sym (all-jobs v) in
-      follows (q .start) (λ h. rw (last-is v p) (first-is (omega (arith, p .jobs-are))))
+      let chosen : 0 < l .size .jobs → first ≡ argLeast (choice (problem q) (q .start) (kAt (problem q) (l .size .block - 1))) (q .kinds) =
+      λ h. rw (last-is v p) (first-is (omega (arith, p .jobs-are))) in
+      follows
+      ∙ ap (λ (xs : List ℕ). filled 60 (byHandInUpto (problem q) (l .counts) (kAt (problem q) (l .size .block - 1)) xs))
+      (sym (walk-by (problem q) (l .size .jobs) (q .start) (kAt (problem q) (l .size .block - 1)) first chosen))
       ∙ rw (last-is v p, places) (ap (filled 60) (order-is v p some-plan))
 
 -- ---- the plan written

@@ -24,8 +24,8 @@ use Rattle.jobs_left.proofs.LeftAt.{left-at, complete-digits, stride-earlier, l
 use Rattle.layout.specs.declared.Layout.{Layout}
 use Rattle.layout.proofs.Prepared.{counts-at, stride-at, jobs-at, job-in}
 use Rattle.next_states.specs.declared.Least.{Least}
-use Rattle.solver.specs.Following.{kAt, byHandInUpto, Takes, Share, Followed}
-use Rattle.solver.proofs.Walking.{Chosen, takes-next, found-after, walkBy, walk-by, by-hand-more, by-hand-none}
+use Rattle.solver.specs.Following.{kAt, byHandInUpto, Takes, Share, walkBy, Followed}
+use Rattle.solver.proofs.Walking.{Chosen, takes-next, found-after, by-hand-more, by-hand-none}
 
 -- the jobs of n places with k left, the first of them of kind x
 abbrev pub jobsBy : Problem → List ℕ → ℕ → ℕ → List ℕ → List ℕ
@@ -54,11 +54,8 @@ module _ {q : Queue} {upto : List ℕ} {index first places : ℕ} where
   }
 
   module _ {order left : List ℕ} {total kind i place : ℕ} (f : Following q upto index first places order left total kind i place) where
-    -- the order followed, whatever row the first kind was looked up from
     pub follow-done : places ≤ place → Followed q upto index first places order
-    follow-done h row e =
-        rw (walk-by (problem q) places row (kAt (problem q) index) first e)
-        (rw (by-hand-none (problem q) upto (sum (kAt (problem q) i)) kind (kAt (problem q) i) (omega (arith, f .gone))) at (f .rest))
+    follow-done h = rw (by-hand-none (problem q) upto (sum (kAt (problem q) i)) kind (kAt (problem q) i) (omega (arith, f .gone))) at (f .rest)
 
 -- a turn of the loop
 pub record Turn (q : Queue) (l : Layout) (from upto : List ℕ) (index first places : ℕ) (order left : List ℕ) (total kind i place : ℕ) : Type 0 where

@@ -18,7 +18,7 @@ use Rattle.sequencing.proofs.Least.{smallest}
 use Rattle.sequencing.proofs.Recursion.{value-some, choice-some}
 use Rattle.sequencing.proofs.Vectors.{complete-sum, at-in}
 use Rattle.next_states.specs.declared.Least.{Least}
-use Rattle.solver.specs.Following.{byHandInUpto, Takes}
+use Rattle.solver.specs.Following.{byHandInUpto, Takes, walkBy}
 
 pub some-cost : (r : Option ℕ) → (r ≡ none → ⊥) → (c : ℕ) × (r ≡ some c)
 some-cost none h = absurd (h refl)
@@ -49,12 +49,8 @@ module _ (P : Problem) where
       let (c, e) = some-cost (value P x (complete k x)) (t .found) in
       (c, sym (cost-some-left P x (complete k x) h) ∙ value-some P x (complete k x) c e .2)
 
-  -- n kinds with k left, the first of them x
-  unfoldable pub walkBy : ℕ → ℕ → List ℕ → List ℕ
-  walkBy zero x k = []
-  walkBy (suc n) x k = x ∷ walk P n x (complete k x)
-
-  pub walk-by : (n L : ℕ) (k : List ℕ) (x : ℕ) → (0 < n → x ≡ argLeast (choice P L k) (P .N)) → walk P n L k ≡ walkBy n x k
+  -- where the first of them is the choice from (L; k), this is the recursion's own walk
+  pub walk-by : (n L : ℕ) (k : List ℕ) (x : ℕ) → (0 < n → x ≡ argLeast (choice P L k) (P .N)) → walk P n L k ≡ walkBy P n x k
   unfolding walk walkBy
   walk-by zero L k x h = refl
   walk-by (suc n) L k x h = rw (h (omega arith))
@@ -62,12 +58,12 @@ module _ (P : Problem) where
   module _ (m : List ℕ) where
     -- the jobs of such a walk: the first, and those of the walk from there
     pub by-hand-more : (k : List ℕ) (x y : ℕ) → 0 < at k x → (0 < sum (complete k x) → y ≡ argLeast (choice P x (complete k x)) (P .N))
-        → byHandInUpto P m k (walkBy (sum k) x k)
-        ≡ at (jobsOf P x) (at m x - at (complete k x) x) ∷ byHandInUpto P m (complete k x) (walkBy (sum (complete k x)) y (complete k x))
+        → byHandInUpto P m k (walkBy P (sum k) x k)
+        ≡ at (jobsOf P x) (at m x - at (complete k x) x) ∷ byHandInUpto P m (complete k x) (walkBy P (sum (complete k x)) y (complete k x))
     unfolding walkBy byHandInUpto
     by-hand-more k x y h e = rw (← (complete-sum k x h), walk-by (sum (complete k x)) x (complete k x) y e)
 
-    pub by-hand-none : (n x : ℕ) (k : List ℕ) → n ≡ 0 → byHandInUpto P m k (walkBy n x k) ≡ []
+    pub by-hand-none : (n x : ℕ) (k : List ℕ) → n ≡ 0 → byHandInUpto P m k (walkBy P n x k) ≡ []
     unfolding walkBy byHandInUpto
     by-hand-none n x k e = rw e
 

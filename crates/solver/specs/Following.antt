@@ -2,15 +2,14 @@
 use mathlib.Core.List.{List, [], _∷_}
 use mathlib.Core.Option.{none}
 use mathlib.Core.Path.{_≡_}
-use Prim.Native.Nat.{ℕ, _-_, _≤_, _<_}
+use Prim.Native.Nat.{ℕ, zero, suc, _-_, _≤_, _<_}
 use Rattle.fields.specs.Lists.{filled}
 use Rattle.queue.specs.declared.Queue.{Queue}
 use Rattle.queue.specs.Record.{Valid}
 use Rattle.sequencing.specs.Lists.{at, sum}
 use Rattle.sequencing.specs.Problem.{Problem}
 use Rattle.sequencing.specs.States.{complete, jobsOf, allLeft}
-use Rattle.sequencing.specs.Least.{argLeast}
-use Rattle.sequencing.specs.Recursion.{value, choice, walk}
+use Rattle.sequencing.specs.Recursion.{value, walk}
 use Rattle.sequencing.specs.Entries.{digits}
 use Rattle.problem.specs.OfQueue.{problem}
 use Rattle.jobs_left.specs.Steps.{LeftAt}
@@ -42,8 +41,12 @@ pub record Share (q : Queue) (l : Layout) (from upto : List ℕ) (index first pl
   pub all : places ≡ sum (kAt (problem q) index)
   pub takes : 0 < places → Takes (problem q) (kAt (problem q) index) first
 
--- its order: the recursion's from any row whose choice the first kind is
+-- the kinds taken at n places with k left, the first of them x: then each time the recursion's choice
+unfoldable pub walkBy : Problem → ℕ → ℕ → List ℕ → List ℕ
+walkBy P zero x k = []
+walkBy P (suc n) x k = x ∷ walk P n x (complete k x)
+
+-- its order
 abbrev pub Followed : (q : Queue) (upto : List ℕ) (index first places : ℕ) (order : List ℕ) → Type 0
 Followed q upto index first places order =
-    (row : ℕ) → (0 < places → first ≡ argLeast (choice (problem q) row (kAt (problem q) index)) (q .kinds))
-    → order ≡ filled 60 (byHandInUpto (problem q) upto (kAt (problem q) index) (walk (problem q) places row (kAt (problem q) index)))
+    order ≡ filled 60 (byHandInUpto (problem q) upto (kAt (problem q) index) (walkBy (problem q) places first (kAt (problem q) index)))
