@@ -23,7 +23,7 @@ pub fn gap_index(row: usize, kind: usize) -> usize
     row_start(row) + (kind - 1)
 }
 
-// The gap from a row to a kind.
+// The gap from a row to a kind. A kind of 0, or past N, gets the number that stands where its gap would, not 0.
 pub fn gap_after(gaps: &[u32], row: usize, kind: usize) -> u32
     requires { ⌜ gapIndex row kind < length (now gaps) ⌝ }
     ensures { λ r. ⌜ r ≡ gapAt (now (gaps .entry)) row kind ⌝ }

@@ -42,7 +42,7 @@ fn in_seconds(gap: u32) -> Seconds
     Seconds(gap as u64)
 }
 
-// The gap from a row (a kind, or 0 for the cold cutter) to a kind, 0 where the record has none.
+// The gap from a row (a kind, or 0 for the cold cutter) to a kind. A kind of 0, or past N, gets the number that stands where its gap would; 0 past the array.
 fn gap_seconds(queue: Queue, row: u32, kind: u8) -> Seconds
     ensures { λ r. ⌜ (r .0 ≡ gapIn queue row kind) × (r .0 < 2 ^ 32) ⌝ }
 {
