@@ -10,6 +10,7 @@ ghost use Rattle.queue.specs.Reading.{readQueue};
 ghost use Rattle.plan.specs.Reading.{readPlan};
 ghost use Rattle.best_order.specs.Endings.{answerOf};
 ghost use Rattle.best_order.specs.Planning.{endingOn, Planning};
+ghost use Rattle.kippertarn.specs.Version.{version};
 
 // The entries that the reason for 16 holds, else 0.
 fn needed_entries(reason: Reason) -> u64
@@ -79,4 +80,12 @@ pub extern "C" fn kippertarn_plan(message: &[u8], table: &mut [u64], plan: &mut 
 {
     let answer = planner::plan(message, table, plan);
     answer_number(answer)
+}
+
+// The version of the archive, to be matched with the header's.
+#[no_mangle]
+pub extern "C" fn kippertarn_version() -> u64
+    ensures { λ r. ⌜ r ≡ version ⌝ }
+{
+    1002000
 }
