@@ -22,12 +22,12 @@ def read(path):
     return Path(path).read_text(encoding="utf-8")
 
 
-def same(what, one, wanted_one, other, wanted_other):
-    """Two dictionaries hold the same: each difference is a failure of its own."""
+def same(what, one, in_one, other, in_other):
+    """Two places, each with its name, hold the same by key: each difference is a failure of its own."""
     global compared
-    for key in sorted(set(wanted_one) | set(wanted_other), key=str):
+    for key in sorted(set(in_one) | set(in_other), key=str):
         compared += 1
-        first, second = wanted_one.get(key, "missing"), wanted_other.get(key, "missing")
+        first, second = in_one.get(key, "missing"), in_other.get(key, "missing")
         if first != second:
             failures.append("%s %s: %s in %s, %s in %s" % (what, key, first, one, second, other))
 

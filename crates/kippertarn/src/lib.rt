@@ -1,4 +1,4 @@
-// The C entries. Each answers R + 256 * V: R is 0 or the refusal, V the bytes of the written plan, the needed entries for 16, else 0.
+// The C entries. The checks and planning answer R + 256 * V: R is 0 or the refusal, V the bytes of the written plan, the needed entries for 16, else 0.
 use refusal::Answer;
 use refusal::Reason;
 use refusal::Verdict;
