@@ -9,8 +9,9 @@ PC = sed 's|@VERSION@|$(VERSION)|;s|@PREFIX@|$(1)|' kippertarn.pc.in
 TESTS = cases source limits messages random orders
 PROGRAMS = $(TESTS:%=target/c/%)
 HEADERS = include/kippertarn.h examples/messages.h tests/c/reference.h tests/c/lent.h tests/c/queues.h bench/plain.h
+INSTALLED = target/include/kippertarn.h target/include/kippertarn_messages.h
 
-.PHONY: test lib install archive c-test soak bench valgrind run-program run-header run-archive run-example run-text $(TESTS:%=run-%)
+.PHONY: test lib install archive c-test soak bench valgrind run-program run-header run-agreement run-archive run-example run-text $(TESTS:%=run-%)
 
 # Two crates or edits at a time for each processor: with fewer, one idles while the last of a batch ends; with more, they crowd the cache.
 JOBS := $(shell expr 2 '*' "$$(nproc 2> /dev/null || echo 2)")
@@ -31,19 +32,25 @@ test:
 		if [ "$$status" != 0 ]; then tail -n 1 "$$said"; exit 1; fi; \
 		$(MAKE) --no-print-directory c-test && tail -n 1 "$$said"
 
-# target/lib/libkippertarn.a and target/include/kippertarn.h, with a pkg-config file
-lib:
+# The headers as they are installed.
+target/include/kippertarn.h: include/kippertarn.h
+target/include/kippertarn_messages.h: examples/messages.h
+$(INSTALLED):
+	@mkdir -p $(@D)
+	cp $< $@
+
+# target/lib/libkippertarn.a and both headers in target/include, with a pkg-config file
+lib: $(INSTALLED)
 	rt check planner plan_reader $(ALSO)
 	rt staticlib kippertarn
-	mkdir -p target/lib/pkgconfig target/include
+	mkdir -p target/lib/pkgconfig
 	cp target/staticlib/libkippertarn.a target/lib/libkippertarn.a
-	cp include/kippertarn.h target/include/kippertarn.h
 	$(call PC,$(CURDIR)/target) > target/lib/pkgconfig/kippertarn.pc
 
 install: lib
 	install -d $(DESTDIR)$(PREFIX)/lib/pkgconfig $(DESTDIR)$(PREFIX)/include
 	install -m 644 target/lib/libkippertarn.a $(DESTDIR)$(PREFIX)/lib
-	install -m 644 target/include/kippertarn.h $(DESTDIR)$(PREFIX)/include
+	install -m 644 $(INSTALLED) $(DESTDIR)$(PREFIX)/include
 	$(call PC,$(PREFIX)) > $(DESTDIR)$(PREFIX)/lib/pkgconfig/kippertarn.pc
 
 # ARCHIVE=FILE on the command line tests, or measures, another archive than the one built here.
@@ -74,15 +81,14 @@ target/bin/plan_queue: archive
 # What the program needs beside the archive is proved with it, side by side; then two parts at a time.
 c-test: ALSO = plan_lines
 c-test: archive
-	@$(MAKE) --no-print-directory -j 2 -O ARCHIVE=$(ARCHIVE) run-program run-header run-archive run-example run-text $(TESTS:%=run-%)
+	@$(MAKE) --no-print-directory -j 2 -O ARCHIVE=$(ARCHIVE) run-program run-header run-agreement run-archive run-example run-text $(TESTS:%=run-%)
 
 run-program: target/bin/plan_queue
 	@sh tests/c/program.sh target/bin/plan_queue
-run-header:
-	@mkdir -p target/c
-	$(CC) $(CFLAGS) -Iinclude -c tests/c/header.c -o target/c/header.o
-	@if command -v $(CXX) > /dev/null; then $(CXX) $(CXXFLAGS) -Iinclude -x c++ -c tests/c/header.c -o target/c/header.o; \
-		else echo "no C++ compiler here: the header was not tried as C++"; fi
+run-header: $(INSTALLED)
+	@CC='$(CC)' CFLAGS='$(CFLAGS)' CXX='$(CXX)' CXXFLAGS='$(CXXFLAGS)' sh tests/c/header.sh target/include
+run-agreement:
+	@python3 tests/tools/messages_doc.py
 run-archive:
 	@sh tests/c/archive.sh $(ARCHIVE)
 run-example: target/c/plan

@@ -9,7 +9,7 @@
 #include <stdio.h>
 #include <time.h>
 
-typedef uint64_t planner(const uint8_t *, size_t, uint64_t *, size_t, uint8_t *, size_t);
+typedef uint64_t planner(const uint8_t *, uint64_t, uint64_t *, uint64_t, uint8_t *, uint64_t);
 
 static planner *const part = kippertarn_plan;
 static planner *volatile const by_hand = plain_plan; /* volatile: called like the part, not melted into the loop */
@@ -55,7 +55,7 @@ static void make_queue(struct work *w, const struct size *size, unsigned goal, u
                                          { 84, 95, 160, 77, 121 },
                                          { 110, 70, 99, 150, 85 } };
     static const unsigned pupils[5] = { 300, 150, 100, 220, 60 };
-    struct queue_record q = { .kinds = size->kinds, .goal = goal, .shift = shift, .start = 2 };
+    struct kippertarn_queue_record q = { .kinds = size->kinds, .goal = goal, .shift = shift, .start = 2 };
     memcpy(q.gap, rows, sizeof rows);
     memcpy(q.pupils, pupils, sizeof pupils);
     for (unsigned j = 0; j < size->kinds; j++) {
@@ -66,7 +66,7 @@ static void make_queue(struct work *w, const struct size *size, unsigned goal, u
         for (unsigned j = 0; j < size->kinds; j++)
             if (round < size->jobs[j])
                 q.kind[q.jobs++] = j + 1;
-    w->length = write_queue_record(&q, w->message, sizeof w->message);
+    w->length = kippertarn_write_queue_record(&q, w->message, sizeof w->message);
     w->entries = (size_t)KIPPERTARN_V(part(w->message, w->length, NULL, 0, w->plan, sizeof w->plan));
 }
 

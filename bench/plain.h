@@ -5,7 +5,7 @@
 #include "../tests/c/reference.h"
 
 struct plain {
-    struct queue_record q;
+    struct kippertarn_queue_record q;
     unsigned all[5];      /* K_j */
     unsigned job[5][60];  /* the jobs of each kind, by hand-in */
     unsigned low[5][61];  /* by kind and jobs left of it: the first place permitted to the job just cut */
@@ -87,11 +87,11 @@ static inline uint64_t plain_fill(const struct plain *w, uint64_t *table)
     return kept;
 }
 
-static inline uint64_t plain_plan(const uint8_t *message, size_t length, uint64_t *table, size_t entries, uint8_t *plan,
-                                  size_t plan_length)
+static inline uint64_t plain_plan(const uint8_t *message, uint64_t length, uint64_t *table, uint64_t entries,
+                                  uint8_t *plan, uint64_t plan_length)
 {
     struct plain w = { 0 };
-    struct message_place to = { plan, plan_length, 0 };
+    struct kippertarn_message_place to = { plan, plan_length, 0 };
     unsigned k[5], last, best = 0;
     uint64_t kept, cost = 0, pupils = 0, next[5];
     size_t at;
@@ -115,18 +115,18 @@ static inline uint64_t plain_plan(const uint8_t *message, size_t length, uint64_
         if (cost == UINT64_MAX)
             return 17;
     }
-    put_number(&to, 0x51);
-    put_number(&to, 0x50);
-    put_number(&to, 1);
-    put_number(&to, w.q.goal);
-    put_number(&to, cost);
-    put_number(&to, kept);
-    put_number(&to, w.q.jobs);
+    kippertarn_put_number(&to, 0x51);
+    kippertarn_put_number(&to, 0x50);
+    kippertarn_put_number(&to, 1);
+    kippertarn_put_number(&to, w.q.goal);
+    kippertarn_put_number(&to, cost);
+    kippertarn_put_number(&to, kept);
+    kippertarn_put_number(&to, w.q.jobs);
     for (unsigned place = 1; place <= w.q.jobs; place++) {
         plain_next(&w, table, at, k, next);
         plain_least(&w, last, w.q.goal == 1 ? 1 : pupils, next, &best);
         last = best;
-        put_number(&to, w.job[last - 1][w.all[last - 1] - k[last - 1]]);
+        kippertarn_put_number(&to, w.job[last - 1][w.all[last - 1] - k[last - 1]]);
         k[last - 1]--;
         at -= w.weight[last - 1];
         pupils -= w.q.pupils[last - 1];

@@ -7,15 +7,14 @@
 
 static int refused(uint64_t answer)
 {
-    printf("refused %u\n", KIPPERTARN_R(answer));
+    printf("refused %u: %s\n", KIPPERTARN_R(answer), kippertarn_sentence(KIPPERTARN_R(answer)));
     return 1;
 }
 
 int main(int count, char **words)
 {
-    uint8_t message[2 * KIPPERTARN_QUEUE_BYTES],
-        plan[KIPPERTARN_PLAN_BYTES]; /* a message that is too long is to be refused as such */
-    struct plan_record planned;
+    uint8_t message[KIPPERTARN_QUEUE_DECIDING_BYTES], plan[KIPPERTARN_PLAN_BYTES];
+    struct kippertarn_plan_record planned;
     FILE *file = count > 1 ? fopen(words[1], "rb") : stdin;
     if (!file) {
         perror(words[1]);
@@ -34,7 +33,7 @@ int main(int count, char **words)
 
     answer = kippertarn_plan(message, length, table, entries, plan, sizeof plan);
     free(table);
-    if (KIPPERTARN_R(answer) != KIPPERTARN_DONE || !read_plan_record(&planned, plan, (size_t)KIPPERTARN_V(answer)))
+    if (KIPPERTARN_R(answer) != KIPPERTARN_DONE || !kippertarn_read_plan_record(&planned, plan, KIPPERTARN_V(answer)))
         return refused(answer);
     printf("cost %llu\norder", (unsigned long long)planned.cost);
     for (unsigned place = 0; place < planned.jobs; place++)

@@ -1,11 +1,11 @@
 /* Kippertarn: the best order of a benchtop cutter's queue, as a C part.
  *
- * A queue message goes in and a plan message comes out, or one refusal. Both messages are bytes, laid out in document
- * 01 and shown in the README.
+ * A queue message goes in and a plan message comes out, or one refusal. Both messages are bytes; docs/MESSAGES.md has
+ * their formats, every refusal and the table's entries in full.
  *
  * What the caller owes, in every call: what is lent is as long as said; the table is aligned as uint64_t is; all of it
  * is the call's alone until it answers; and no part that may be written (table, plan) shares a byte with another. A
- * null pointer may be lent with length 0.
+ * null pointer may be lent with length 0. Lengths are 64 bits wide on every board, as they are in the archive.
  *
  * What is promised: every call ends and answers, for any bytes and any lengths; calls use no heap and keep no state
  * between them, so they are reentrant and may run at the same time in several threads. Only this is ever written, N x P
@@ -24,23 +24,37 @@
 #error "Kippertarn's archive is for x86-64 with 64-bit pointers and the System V calling convention"
 #endif
 
-#include <stddef.h>
 #include <stdint.h>
 
 #ifdef __cplusplus
 extern "C" {
 #endif
 
-#define KIPPERTARN_VERSION "1.1.0"
+/* The version of this header. kippertarn_version() answers that of the archive: they are to be the same. */
+#define KIPPERTARN_VERSION "1.2.0"
+#define KIPPERTARN_VERSION_NUMBER 1002000 /* 1000000 * major + 1000 * minor + patch */
 
 #define KIPPERTARN_QUEUE_BYTES 178 /* the longest queue message that is accepted */
 #define KIPPERTARN_PLAN_BYTES 77   /* the longest plan message, and the least plan buffer that may be lent */
 
+/* The first so many bytes decide the answer for a message of any length: who reads a message from a file or a line
+ * needs room for no more. */
+#define KIPPERTARN_QUEUE_DECIDING_BYTES 180
+#define KIPPERTARN_PLAN_DECIDING_BYTES 79
+
+/* The greatest numbers of a queue. */
+#define KIPPERTARN_KINDS_MOST 5     /* N */
+#define KIPPERTARN_JOBS_MOST 60     /* T */
+#define KIPPERTARN_SHIFT_MOST 60    /* m */
+#define KIPPERTARN_GAP_MOST 65535   /* gap(i, j), in seconds */
+#define KIPPERTARN_PUPILS_MOST 1000 /* w_j */
+#define KIPPERTARN_PLACE_MOST 60    /* b_j */
+
 /* N x P, the table entries that a queue of n kinds with k1 to k5 jobs each needs: P is the product of all (K_j + 1).
  * Write 0 for the jobs of kinds past n. A constant where its arguments are, so that it can size an array. */
 #define KIPPERTARN_ENTRIES(n, k1, k2, k3, k4, k5) \
-    ((size_t)(n) * ((size_t)(k1) + 1) * ((size_t)(k2) + 1) * ((size_t)(k3) + 1) * ((size_t)(k4) + 1) \
-     * ((size_t)(k5) + 1))
+    ((uint64_t)(n) * ((uint64_t)(k1) + 1) * ((uint64_t)(k2) + 1) * ((uint64_t)(k3) + 1) * ((uint64_t)(k4) + 1) \
+     * ((uint64_t)(k5) + 1))
 
 /* Enough for any queue: 60 jobs of 5 kinds, 12 of each. */
 #define KIPPERTARN_ENTRIES_MOST KIPPERTARN_ENTRIES(5, 12, 12, 12, 12, 12)
@@ -78,10 +92,10 @@ enum kippertarn_refusal {
 };
 
 /* Whether a queue message is accepted: R is 0, or the one refusal of its reader, 1 to 14. */
-uint64_t kippertarn_check_queue(const uint8_t *message, size_t length);
+uint64_t kippertarn_check_queue(const uint8_t *message, uint64_t length);
 
 /* Whether a plan message is accepted: R is 0, or the one refusal of its reader: 1, 2, 3, 4, 6, 12, 18 or 14. */
-uint64_t kippertarn_check_plan(const uint8_t *message, size_t length);
+uint64_t kippertarn_check_plan(const uint8_t *message, uint64_t length);
 
 /* Plans a queue: R is 0 and the plan message stands in the plan buffer, V bytes long; or R is the first of the queue
  * reader's refusal, 15, 16 and 17 that applies. The table, of `entries` numbers, need not be cleared. After R 0 or 17
@@ -90,8 +104,11 @@ uint64_t kippertarn_check_plan(const uint8_t *message, size_t length);
  *
  * To ask for the table's size, lend none: with a null table of 0 entries and a plan buffer of 77 bytes an accepted
  * message is answered 16, V being N x P (at least 1), and nothing is written. */
-uint64_t kippertarn_plan(const uint8_t *message, size_t length, uint64_t *table, size_t entries, uint8_t *plan,
-                         size_t plan_length);
+uint64_t kippertarn_plan(const uint8_t *message, uint64_t length, uint64_t *table, uint64_t entries, uint8_t *plan,
+                         uint64_t plan_length);
+
+/* The version of the archive, as KIPPERTARN_VERSION_NUMBER has it. */
+uint64_t kippertarn_version(void);
 
 #ifdef __cplusplus
 }

@@ -5,8 +5,11 @@ static const uint8_t queue_a[] = { 0x51, 0x53, 0x01, 0x02, 0x01, 0x01, 0x00, 0x0
                                    0x1E, 0x03, 0x01, 0x01, 0x3C, 0x01, 0x3C, 0x03, 0x01, 0x02, 0x01 };
 static const uint8_t plan_a[] = { 0x51, 0x50, 0x01, 0x01, 0x46, 0x07, 0x03, 0x02, 0x01, 0x03 };
 static const uint8_t plan_b[] = { 0x51, 0x50, 0x01, 0x02, 0xC8, 0x01, 0x07, 0x03, 0x01, 0x03, 0x02 };
+#define NONE KIPPERTARN_NOT_KEPT
+static const uint64_t table_a[] = { 0, 20, NONE, 50, 70, NONE, 0, 40, 60, NONE, NONE, NONE }; /* worked out by hand */
 
-enum { GOAL = 4, SHIFT = 5, GAPS = 7, A_1 = 15, A_2 = 17, JOBS = 19 }; /* where A's numbers stand */
+/* Where A's numbers stand. */
+enum { KINDS = 3, GOAL, SHIFT, START, GAPS, PUPILS = 13, A_1 = 15, A_2 = 17, JOBS = 19 };
 
 struct message {
     uint8_t bytes[64];
@@ -63,12 +66,16 @@ static void small_queues(void)
     struct message a = queue_of_a(), b = a_with(GOAL, 2), c = a_with(A_2, 3), d = a_with(A_1, 2), e = a_with(A_1, 3),
                    f = a_with(SHIFT, 0), g, h;
     struct message f_none = f;
+    uint64_t table[12];
+    uint8_t plan[KIPPERTARN_PLAN_BYTES];
     /* 01 gives these orders and costs; the kept counts of C, D and H are counted by hand. */
     static const uint8_t plan_c[] = { 0x51, 0x50, 1, 1, 80, 5, 3, 1, 3, 2 },
                          plan_d[] = { 0x51, 0x50, 1, 1, 70, 6, 3, 2, 1, 3 },
                          plan_f[] = { 0x51, 0x50, 1, 1, 100, 3, 3, 1, 2, 3 }, plan_g[] = { 0x51, 0x50, 1, 1, 0, 0, 0 },
                          plan_h[] = { 0x51, 0x50, 1, 1, 0, 4, 2, 2, 1 };
     expect_plan("case-a", &a, 12, plan_a, sizeof plan_a);
+    expect("A's table", kippertarn_plan(a.bytes, a.length, table, 12, plan, sizeof plan), 256 * sizeof plan_a);
+    expect("A's table", (uint64_t)(memcmp(table, table_a, sizeof table_a) == 0), 1);
     expect_plan("case-b", &b, 12, plan_b, sizeof plan_b);
     expect_plan("case-c", &c, 12, plan_c, sizeof plan_c);
     expect_plan("case-d", &d, 12, plan_d, sizeof plan_d);
@@ -114,16 +121,16 @@ static void refusals(void)
     expect_refusal("80 80 80 at the end", (struct message){ { 0x51, 0x53, 0x80, 0x80, 0x80 }, 5 }, 3);
     expect_refusal("edition 2", a_with(2, 2), 4);
     expect_refusal("edition 1 in two groups", WITH(2, 0x81, 0x00), 3);
-    expect_refusal("no kinds", a_with(3, 0), 5);
-    expect_refusal("six kinds", a_with(3, 6), 5);
+    expect_refusal("no kinds", a_with(KINDS, 0), 5);
+    expect_refusal("six kinds", a_with(KINDS, 6), 5);
     expect_refusal("goal 0", a_with(GOAL, 0), 6);
     expect_refusal("goal 3", a_with(GOAL, 3), 6);
     expect_refusal("shift 60", a_with(SHIFT, 60), 0);
     expect_refusal("shift 61", a_with(SHIFT, 61), 7);
-    expect_refusal("start 2 of 2", a_with(6, 2), 0);
-    expect_refusal("start 3 of 2", a_with(6, 3), 8);
-    expect_refusal("1000 pupils", WITH(13, 0xE8, 0x07), 0);
-    expect_refusal("1001 pupils", WITH(13, 0xE9, 0x07), 10);
+    expect_refusal("start 2 of 2", a_with(START, 2), 0);
+    expect_refusal("start 3 of 2", a_with(START, 3), 8);
+    expect_refusal("1000 pupils", WITH(PUPILS, 0xE8, 0x07), 0);
+    expect_refusal("1001 pupils", WITH(PUPILS, 0xE9, 0x07), 10);
     expect_refusal("first place 0", a_with(A_1, 0), 11);
     expect_refusal("first place 61", a_with(A_1, 61), 11);
     expect_refusal("last place 61", a_with(A_1 + 1, 61), 11);
@@ -151,9 +158,10 @@ static void refusals(void)
 /* Bounds of the messages' lengths that 01 states, reached. */
 static void longest(void)
 {
-    struct queue_record q = { .kinds = 5, .goal = 1, .jobs = 60 };
-    uint8_t message[4000] = { 0 }, plan[KIPPERTARN_PLAN_BYTES] = { 0x51, 0x50, 1,   2,   255, 255, 255, 255, 255,
-                                                                   127,  255,  255, 255, 255, 255, 127, 60 };
+    struct kippertarn_queue_record q = { .kinds = 5, .goal = 1, .jobs = 60 };
+    uint8_t message[4000] = { 0 },
+            plan[KIPPERTARN_PLAN_DECIDING_BYTES] = { 0x51, 0x50, 1,   2,   255, 255, 255, 255, 255,
+                                                     127,  255,  255, 255, 255, 255, 127, 60 };
     for (unsigned j = 0; j < 5; j++) {
         q.pupils[j] = 1000;
         q.first[j] = q.last[j] = 60;
@@ -164,21 +172,59 @@ static void longest(void)
         q.kind[i] = 1 + i % 5;
         plan[17 + i] = (uint8_t)(i + 1);
     }
-    expect("the longest queue", write_queue_record(&q, message, sizeof message), KIPPERTARN_QUEUE_BYTES);
+    expect("the longest queue", kippertarn_write_queue_record(&q, message, sizeof message), KIPPERTARN_QUEUE_BYTES);
     expect("the longest queue", kippertarn_check_queue(message, KIPPERTARN_QUEUE_BYTES), 0);
-    expect("the longest queue in too little room", write_queue_record(&q, message, KIPPERTARN_QUEUE_BYTES - 1), 0);
+    expect("the longest queue in too little room",
+           kippertarn_write_queue_record(&q, message, KIPPERTARN_QUEUE_BYTES - 1), 0);
     expect("and a byte", kippertarn_check_queue(message, KIPPERTARN_QUEUE_BYTES + 1), 14);
     expect("and many bytes", kippertarn_check_queue(message, sizeof message), 14);
     memcpy(message + 177, (const uint8_t[]){ 0x81, 0x80, 0x01 }, 3); /* a reader looks at 180 bytes at most */
-    expect("its last kind in three bytes", kippertarn_check_queue(message, 180), 13);
-    expect("its last kind cut off", kippertarn_check_queue(message, 179), 2);
+    expect("its last kind in three bytes", kippertarn_check_queue(message, KIPPERTARN_QUEUE_DECIDING_BYTES), 13);
+    expect("its last kind cut off", kippertarn_check_queue(message, KIPPERTARN_QUEUE_DECIDING_BYTES - 1), 2);
     message[179] = 0x80;
     expect("its last kind without an end", kippertarn_check_queue(message, 180), 3);
     message[179] = 0;
     expect("its last kind ended by 00", kippertarn_check_queue(message, 180), 3);
     expect("the longest plan", kippertarn_check_plan(plan, KIPPERTARN_PLAN_BYTES), 0);
+    memcpy(plan + 76, (const uint8_t[]){ 0x81, 0x80, 0x01 }, 3);
+    expect("its last job in three bytes", kippertarn_check_plan(plan, KIPPERTARN_PLAN_DECIDING_BYTES), 18);
+    expect("its last job cut off", kippertarn_check_plan(plan, KIPPERTARN_PLAN_DECIDING_BYTES - 1), 2);
     q.jobs = 61;
-    expect("61 jobs have no room in a record", write_queue_record(&q, message, sizeof message), 0);
+    expect("61 jobs have no room in a record", kippertarn_write_queue_record(&q, message, sizeof message), 0);
+}
+
+/* A cut off behind one of its numbers: at a limit of the header the number is accepted, and 2 is due; one more is
+ * refused. */
+static void expect_limit(const char *what, size_t at, uint64_t most, uint64_t refusal)
+{
+    struct message m = queue_of_a();
+    struct kippertarn_message_place to = { m.bytes, sizeof m.bytes, at };
+    kippertarn_put_number(&to, most);
+    expect(what, kippertarn_check_queue(m.bytes, to.at), KIPPERTARN_ENDS);
+    to.at = at;
+    kippertarn_put_number(&to, most + 1);
+    expect(what, kippertarn_check_queue(m.bytes, to.at), refusal);
+}
+
+static void limits(void)
+{
+    expect_limit("kinds", KINDS, KIPPERTARN_KINDS_MOST, KIPPERTARN_KINDS);
+    expect_limit("shift", SHIFT, KIPPERTARN_SHIFT_MOST, KIPPERTARN_SHIFT);
+    expect_limit("gap", GAPS, KIPPERTARN_GAP_MOST, KIPPERTARN_GAP);
+    expect_limit("pupils", PUPILS, KIPPERTARN_PUPILS_MOST, KIPPERTARN_PUPILS);
+    expect_limit("last place", A_1 + 1, KIPPERTARN_PLACE_MOST, KIPPERTARN_PLACES);
+    expect_limit("jobs", JOBS, KIPPERTARN_JOBS_MOST, KIPPERTARN_JOBS);
+}
+
+/* The version is one in string, number and archive. */
+static void version(void)
+{
+    unsigned major = 0, minor = 0, patch = 0;
+    char rest;
+    expect("parts of the version", (uint64_t)sscanf(KIPPERTARN_VERSION, "%u.%u.%u%c", &major, &minor, &patch, &rest),
+           3);
+    expect("the header's version", 1000000 * major + 1000 * minor + patch, KIPPERTARN_VERSION_NUMBER);
+    expect("the archive's version", kippertarn_version(), KIPPERTARN_VERSION_NUMBER);
 }
 
 int main(void)
@@ -187,5 +233,7 @@ int main(void)
     small_queues();
     refusals();
     longest();
+    limits();
+    version();
     return summary("cases", "01's queues A to I and the refusals by hand");
 }

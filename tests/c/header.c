@@ -1,21 +1,28 @@
-/* The header by itself, as C and as C++: every macro in use, no warning. */
+/* Both headers as they are installed, in use; compiled only, by header.sh. */
 #include "kippertarn.h"
-#include "../../examples/messages.h"
+#include "kippertarn_messages.h"
 
 static uint64_t table[KIPPERTARN_ENTRIES(2, 2, 1, 0, 0, 0)];
 
-uint64_t plan_in_static_table(const uint8_t *message, size_t length, uint8_t *plan);
+const char *plan_in_static_table(const struct kippertarn_queue_record *queue, uint8_t *plan, uint64_t *cost);
 
-uint64_t plan_in_static_table(const uint8_t *message, size_t length, uint8_t *plan)
+const char *plan_in_static_table(const struct kippertarn_queue_record *queue, uint8_t *plan, uint64_t *cost)
 {
-    uint64_t answer = kippertarn_check_queue(message,
-                                             length < KIPPERTARN_QUEUE_BYTES ? length : KIPPERTARN_QUEUE_BYTES);
-    struct plan_record planned;
+    uint8_t message[KIPPERTARN_QUEUE_BYTES];
+    struct kippertarn_plan_record planned;
+    uint64_t length = kippertarn_write_queue_record(queue, message, sizeof message),
+             answer = kippertarn_check_queue(message, length);
+    if (kippertarn_version() != KIPPERTARN_VERSION_NUMBER)
+        return KIPPERTARN_VERSION;
     if (KIPPERTARN_R(answer) == KIPPERTARN_DONE)
         answer = kippertarn_plan(message, length, table, sizeof table / sizeof *table, plan, KIPPERTARN_PLAN_BYTES);
+    *cost = KIPPERTARN_ENTRIES_MOST;
     if (KIPPERTARN_R(answer) == KIPPERTARN_TABLE)
-        return KIPPERTARN_V(answer) <= KIPPERTARN_ENTRIES_MOST;
-    if (!read_plan_record(&planned, plan, (size_t)KIPPERTARN_V(answer)) || table[0] == KIPPERTARN_NOT_KEPT)
-        return kippertarn_check_plan(plan, KIPPERTARN_PLAN_BYTES);
-    return planned.cost + sizeof KIPPERTARN_VERSION;
+        *cost = KIPPERTARN_V(answer);
+    else if (KIPPERTARN_R(answer) == KIPPERTARN_DONE && table[0] != KIPPERTARN_NOT_KEPT
+             && kippertarn_read_plan_record(&planned, plan, KIPPERTARN_V(answer)))
+        *cost = planned.cost;
+    else
+        answer = kippertarn_check_plan(plan, KIPPERTARN_PLAN_BYTES);
+    return kippertarn_sentence(KIPPERTARN_R(answer));
 }

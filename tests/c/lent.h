@@ -220,7 +220,7 @@ static inline struct ref_answer compare_plan(const char *what, const uint8_t *by
 static inline void compare_checks(const char *what, const uint8_t *bytes, size_t length, int *as_queue, int *as_plan)
 {
     struct lent message = lend(&message_room, "message", length);
-    struct queue_record q;
+    struct kippertarn_queue_record q;
     uint64_t queue_answer, plan_answer;
     memcpy(message.bytes, bytes, length);
     memcpy(message.copy, bytes, length);

@@ -31,9 +31,9 @@ static void messages_around_limits(unsigned long random_queues)
         around_limits("an example with a byte more", message, length + 1);
     }
     for (unsigned long i = 0; i < random_queues && failures < 5; i++) {
-        struct queue_record q;
+        struct kippertarn_queue_record q;
         random_queue(&q, 60, i % 20 ? 300 : 5000);
-        around_limits("a random queue", message, write_queue_record(&q, message, sizeof message));
+        around_limits("a random queue", message, kippertarn_write_queue_record(&q, message, sizeof message));
     }
 }
 
@@ -80,7 +80,7 @@ static int huge_lengths(void)
 
 /* A queue planned over and over beside others. */
 struct planning {
-    struct queue_record queue;
+    struct kippertarn_queue_record queue;
     unsigned long different;
 };
 
@@ -89,7 +89,7 @@ static void *plan_again(void *of)
     struct planning *p = of;
     uint8_t message[KIPPERTARN_QUEUE_BYTES], plan[2][KIPPERTARN_PLAN_BYTES] = { { 0 } };
     uint64_t table[2][700] = { { 0 } }, first, again;
-    size_t length = write_queue_record(&p->queue, message, sizeof message), entries = entries_of(&p->queue);
+    size_t length = kippertarn_write_queue_record(&p->queue, message, sizeof message), entries = entries_of(&p->queue);
     first = kippertarn_plan(message, length, table[0], entries, plan[0], sizeof plan[0]);
     for (int i = 0; i < 500; i++) {
         again = kippertarn_plan(message, length, table[1], entries, plan[1], sizeof plan[1]);

@@ -8,7 +8,7 @@ static unsigned long met_queue[19], met_plan[19], messages;
 static void plan_damaged(const uint8_t *message, size_t length)
 {
     static const size_t buffers[6] = { 0, 1, 76, 77, 78, 77 };
-    struct queue_record q;
+    struct kippertarn_queue_record q;
     size_t entries = below(40);
     if (ref_read_queue(message, length, &q) == 0) {
         size_t needed = entries_of(&q);
@@ -21,9 +21,9 @@ static void plan_damaged(const uint8_t *message, size_t length)
 static void compare_message(const char *what, const uint8_t *message, size_t length)
 {
     int as_queue, as_plan;
-    struct plan_record plan;
+    struct kippertarn_plan_record plan;
     compare_checks(what, message, length, &as_queue, &as_plan);
-    if (!read_plan_record(&plan, message, length) && as_plan == 0) {
+    if (!kippertarn_read_plan_record(&plan, message, length) && as_plan == 0) {
         printf("FAILED: the helper does not read an accepted plan\n");
         print_bytes("plan", message, length);
         failures++;
@@ -95,10 +95,10 @@ static void every_bound(const struct numbers *n, uint8_t second)
 }
 
 /* The helper's message of a record has the same numbers. */
-static void compare_helper(const struct queue_record *q, const struct numbers *n)
+static void compare_helper(const struct kippertarn_queue_record *q, const struct numbers *n)
 {
     uint8_t helped[KIPPERTARN_QUEUE_BYTES], message[1024];
-    size_t length = write_queue_record(q, helped, sizeof helped);
+    size_t length = kippertarn_write_queue_record(q, helped, sizeof helped);
     if (length != write_numbers(n, 0x53, n->count, message, sizeof message) || memcmp(helped, message, length)) {
         printf("FAILED: the helper writes another message\n");
         print_bytes("queue", message, length);
@@ -136,7 +136,7 @@ int main(int count, char **words)
     char cases[80];
     open_rooms();
     while (another_round(&rounds)) {
-        struct queue_record q;
+        struct kippertarn_queue_record q;
         struct numbers queue, plan = plan_numbers();
         random_queue(&q, 60, rounds.done % 4 ? 200 : 1500); /* 60 jobs of 5 kinds need 305 at least */
         queue = queue_numbers(&q);

@@ -6,7 +6,7 @@
 static unsigned long orders_tried, states_tried;
 
 /* 01's "permitted" once more, apart from reference.h, so that a slip in one shows: |p - i| <= m and a_j <= p <= b_j. */
-static int may_stand(const struct queue_record *q, unsigned job, unsigned place)
+static int may_stand(const struct kippertarn_queue_record *q, unsigned job, unsigned place)
 {
     unsigned j = q->kind[job - 1] - 1;
     int off = (int)place - (int)job, m = (int)q->shift;
@@ -16,7 +16,7 @@ static int may_stand(const struct queue_record *q, unsigned job, unsigned place)
 }
 
 /* 01's cost of an order, given as the job at each place. */
-static uint64_t order_cost(const struct queue_record *q, const unsigned *job)
+static uint64_t order_cost(const struct kippertarn_queue_record *q, const unsigned *job)
 {
     uint64_t finish = 0, waiting = 0;
     unsigned before = q->start;
@@ -29,7 +29,7 @@ static uint64_t order_cost(const struct queue_record *q, const unsigned *job)
     return q->goal == 1 ? finish : waiting;
 }
 
-static int order_permitted(const struct queue_record *q, const unsigned *job)
+static int order_permitted(const struct kippertarn_queue_record *q, const unsigned *job)
 {
     for (unsigned place = 1; place <= q->jobs; place++)
         if (!may_stand(q, job[place - 1], place))
@@ -44,7 +44,7 @@ struct best {
     unsigned kinds[8];
 };
 
-static void try_orders(const struct queue_record *q, unsigned *job, unsigned placed, struct best *best)
+static void try_orders(const struct kippertarn_queue_record *q, unsigned *job, unsigned placed, struct best *best)
 {
     if (placed == q->jobs) {
         unsigned kinds[8] = { 0 };
@@ -73,7 +73,7 @@ static void try_orders(const struct queue_record *q, unsigned *job, unsigned pla
 }
 
 /* Whether the jobs not yet used can fill the places from `place` on, all permitted, each kind by hand-in. */
-static int can_fill(const struct queue_record *q, const int *used, unsigned place)
+static int can_fill(const struct kippertarn_queue_record *q, const int *used, unsigned place)
 {
     int now[60] = { 0 };
     if (place > q->jobs)
@@ -94,7 +94,7 @@ static int can_fill(const struct queue_record *q, const int *used, unsigned plac
 }
 
 /* Kept states, counted over every kind L and all counts of jobs cut; the jobs cut of a kind are its earliest. */
-static unsigned long count_kept(const struct queue_record *q)
+static unsigned long count_kept(const struct kippertarn_queue_record *q)
 {
     unsigned all[5] = { 0 };
     unsigned long kept = 0, states = 1;
@@ -127,16 +127,16 @@ static unsigned long count_kept(const struct queue_record *q)
 }
 
 /* What the part answers, held to all orders. */
-static int plan_is_best(const struct queue_record *q, uint64_t answer, const uint8_t *bytes)
+static int plan_is_best(const struct kippertarn_queue_record *q, uint64_t answer, const uint8_t *bytes)
 {
     unsigned job[8];
     struct best best = { UINT64_MAX, { 9, 9, 9, 9, 9, 9, 9, 9 } };
-    struct plan_record plan;
+    struct kippertarn_plan_record plan;
     try_orders(q, job, 0, &best);
     if (best.cost == UINT64_MAX)
         return answer == 17;
     if (answer % 256 != 0 || answer / 256 > KIPPERTARN_PLAN_BYTES || ref_check_plan(bytes, (size_t)(answer / 256))
-        || !read_plan_record(&plan, bytes, (size_t)(answer / 256)))
+        || !kippertarn_read_plan_record(&plan, bytes, answer / 256))
         return 0;
     if (plan.goal != q->goal || plan.jobs != q->jobs || !order_permitted(q, plan.job)
         || plan.cost != order_cost(q, plan.job))
@@ -155,12 +155,12 @@ int main(int count, char **words)
     char cases[160];
     tell_of_touches();
     while (another_round(&rounds)) {
-        struct queue_record q;
+        struct kippertarn_queue_record q;
         uint8_t message[KIPPERTARN_QUEUE_BYTES], plan[KIPPERTARN_PLAN_BYTES];
         uint64_t answer;
         size_t length;
         random_queue(&q, 7, sizeof table / sizeof *table);
-        length = write_queue_record(&q, message, sizeof message);
+        length = kippertarn_write_queue_record(&q, message, sizeof message);
         watch(message, length);
         answer = kippertarn_plan(message, length, table, entries_of(&q), plan, sizeof plan);
         without += answer == 17;

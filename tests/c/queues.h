@@ -4,16 +4,16 @@
 
 #include "lent.h"
 
-static inline size_t entries_of(const struct queue_record *q)
+static inline size_t entries_of(const struct kippertarn_queue_record *q)
 {
     size_t k[5] = { 0 };
     for (unsigned i = 0; i < q->jobs; i++)
         k[q->kind[i] - 1]++;
-    return KIPPERTARN_ENTRIES(q->kinds, k[0], k[1], k[2], k[3], k[4]);
+    return (size_t)KIPPERTARN_ENTRIES(q->kinds, k[0], k[1], k[2], k[3], k[4]);
 }
 
 /* Places of an order that moves no job by more than `far`: allowed places around them leave a tight queue an order. */
-static inline void place_jobs(const struct queue_record *q, unsigned far, unsigned *place)
+static inline void place_jobs(const struct kippertarn_queue_record *q, unsigned far, unsigned *place)
 {
     for (unsigned i = 0; i < q->jobs; i++)
         place[i] = i + 1;
@@ -29,7 +29,7 @@ static inline void place_jobs(const struct queue_record *q, unsigned far, unsign
 }
 
 /* Allowed places: all, around the places of some order, or anywhere. */
-static inline void choose_places(struct queue_record *q)
+static inline void choose_places(struct kippertarn_queue_record *q)
 {
     unsigned place[60], how = below(6);
     place_jobs(q, q->shift, place);
@@ -57,7 +57,7 @@ static inline void choose_places(struct queue_record *q)
 }
 
 /* An accepted queue of at most `most_jobs` jobs that needs at most `most_entries`. */
-static inline void random_queue(struct queue_record *q, unsigned most_jobs, size_t most_entries)
+static inline void random_queue(struct kippertarn_queue_record *q, unsigned most_jobs, size_t most_entries)
 {
     unsigned gaps = below(5), pupils = below(4), lean, usual;
     static const unsigned widest[5] = { 65535, 300, 3, 1, 0 }, most_pupils[4] = { 1000, 40, 2, 0 };
@@ -100,7 +100,7 @@ static inline void add_number(struct numbers *n, uint64_t value, unsigned low, u
     n->high[n->count++] = high;
 }
 
-static inline struct numbers queue_numbers(const struct queue_record *q)
+static inline struct numbers queue_numbers(const struct kippertarn_queue_record *q)
 {
     struct numbers n = { 0 };
     add_number(&n, 1, 1, 1);
@@ -164,11 +164,11 @@ static inline void damage_number(struct numbers *n)
 /* The numbers as a message. The number at `odd`, if any, gets a group more than it needs, or bit 7 in its last one. */
 static inline size_t write_numbers(const struct numbers *n, uint8_t second, size_t odd, uint8_t *message, size_t room)
 {
-    struct message_place to = { message, room, 2 };
+    struct kippertarn_message_place to = { message, room, 2 };
     message[0] = 0x51;
     message[1] = second;
     for (size_t i = 0; i < n->count; i++) {
-        put_number(&to, n->value[i]);
+        kippertarn_put_number(&to, n->value[i]);
         if (i == odd) {
             message[to.at - 1] |= 128;
             if (below(3))

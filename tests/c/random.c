@@ -9,10 +9,10 @@ static size_t table_limit(unsigned long round)
 }
 
 /* What the unproved helper takes out of the plan is what was planned. */
-static void compare_record(const struct ref_answer *a, const struct queue_record *q)
+static void compare_record(const struct ref_answer *a, const struct kippertarn_queue_record *q)
 {
-    struct plan_record plan = { 0 };
-    int read = read_plan_record(&plan, a->plan, a->plan_bytes);
+    struct kippertarn_plan_record plan = { 0 };
+    int read = kippertarn_read_plan_record(&plan, a->plan, a->plan_bytes);
     int same = plan.goal == q->goal && plan.cost == a->cost && plan.kept == a->kept && plan.jobs == q->jobs;
     expect("the helper's plan record", (uint64_t)(read && same), 1);
 }
@@ -20,7 +20,9 @@ static void compare_record(const struct ref_answer *a, const struct queue_record
 /* The largest table there is, once for each goal. */
 static void largest(unsigned goal)
 {
-    struct queue_record q = { .kinds = 5, .goal = goal, .shift = goal == 1 ? 60 : 25, .start = 3, .jobs = 60 };
+    struct kippertarn_queue_record q = {
+        .kinds = 5, .goal = goal, .shift = goal == 1 ? 60 : 25, .start = 3, .jobs = 60
+    };
     uint8_t message[KIPPERTARN_QUEUE_BYTES];
     for (unsigned i = 0; i < 60; i++)
         q.kind[i] = 1 + (i * 7 + i / 5) % 5;
@@ -32,8 +34,8 @@ static void largest(unsigned goal)
             q.gap[i][j] = between(65000, 65535);
     }
     expect("the largest table", entries_of(&q), KIPPERTARN_ENTRIES_MOST);
-    compare_plan("the largest table", message, write_queue_record(&q, message, sizeof message), KIPPERTARN_ENTRIES_MOST,
-                 77);
+    compare_plan("the largest table", message, kippertarn_write_queue_record(&q, message, sizeof message),
+                 KIPPERTARN_ENTRIES_MOST, 77);
 }
 
 int main(int count, char **words)
@@ -47,11 +49,11 @@ int main(int count, char **words)
         largest(2);
     }
     while (another_round(&rounds)) {
-        struct queue_record q;
+        struct kippertarn_queue_record q;
         uint8_t message[KIPPERTARN_QUEUE_BYTES];
         size_t length, needed;
         random_queue(&q, 60, table_limit(rounds.done));
-        length = write_queue_record(&q, message, sizeof message);
+        length = kippertarn_write_queue_record(&q, message, sizeof message);
         needed = entries_of(&q);
         struct ref_answer a = compare_plan("a random queue", message, length, needed + (below(4) ? 0 : below(9)),
                                            77 + (below(4) ? 0 : below(99)));

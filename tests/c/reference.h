@@ -50,7 +50,7 @@ static inline int ref_open(struct cursor *c, uint8_t second)
     return 0;
 }
 
-static inline int ref_read_queue(const uint8_t *bytes, size_t length, struct queue_record *q)
+static inline int ref_read_queue(const uint8_t *bytes, size_t length, struct kippertarn_queue_record *q)
 {
     struct cursor c = { bytes, length, 0 };
     unsigned edition;
@@ -102,7 +102,7 @@ static inline int ref_check_plan(const uint8_t *bytes, size_t length)
 }
 
 /* Job i of the queue at place p: 01's "permitted". */
-static inline int ref_permitted(const struct queue_record *q, unsigned i, unsigned p)
+static inline int ref_permitted(const struct kippertarn_queue_record *q, unsigned i, unsigned p)
 {
     unsigned j = q->kind[i - 1];
     unsigned moved = p > i ? p - i : i - p;
@@ -122,7 +122,7 @@ struct ref_answer {
 
 /* What is worked out of one queue. Values and fillings are worked out once each, and remembered. */
 struct ref_work {
-    struct queue_record q;
+    struct kippertarn_queue_record q;
     unsigned all[5];     /* K_j */
     unsigned job[5][60]; /* the jobs of each kind, by hand-in */
     size_t p;            /* P */
@@ -228,19 +228,19 @@ static inline uint64_t ref_every(struct ref_work *w, unsigned kinds, unsigned *k
 /* Follows the values from the start and writes the plan. */
 static inline void ref_write_plan(struct ref_work *w, struct ref_answer *a)
 {
-    struct message_place to = { a->plan, sizeof a->plan, 0 };
+    struct kippertarn_message_place to = { a->plan, sizeof a->plan, 0 };
     unsigned k[5], last = w->q.start;
     memcpy(k, w->all, sizeof k);
-    put_number(&to, 0x51);
-    put_number(&to, 0x50);
-    put_number(&to, 1);
-    put_number(&to, w->q.goal);
-    put_number(&to, a->cost);
-    put_number(&to, a->kept);
-    put_number(&to, w->q.jobs);
+    kippertarn_put_number(&to, 0x51);
+    kippertarn_put_number(&to, 0x50);
+    kippertarn_put_number(&to, 1);
+    kippertarn_put_number(&to, w->q.goal);
+    kippertarn_put_number(&to, a->cost);
+    kippertarn_put_number(&to, a->kept);
+    kippertarn_put_number(&to, w->q.jobs);
     for (unsigned place = 1; place <= w->q.jobs; place++) {
         ref_least(w, last, k, &last);
-        put_number(&to, w->job[last - 1][w->all[last - 1] - k[last - 1]]);
+        kippertarn_put_number(&to, w->job[last - 1][w->all[last - 1] - k[last - 1]]);
         k[last - 1]--;
     }
     a->plan_bytes = to.at;

@@ -8,10 +8,12 @@ static const unsigned contrived_rows[3][3] = { { 300, 25, 30 }, { 18, 400, 35 },
 static const unsigned jet_rows[3][3] = { { 96, 181, 228 }, { 72, 80, 117 }, { 72, 80, 90 } };
 
 /* A queue of three kinds without jobs yet, all places allowed; row 0 isn't read. */
-static struct queue_record queue_of(unsigned start, unsigned goal, const unsigned rows[3][3], unsigned p1, unsigned p2,
-                                    unsigned p3)
+static struct kippertarn_queue_record queue_of(unsigned start, unsigned goal, const unsigned rows[3][3], unsigned p1,
+                                               unsigned p2, unsigned p3)
 {
-    struct queue_record q = { .kinds = 3, .goal = goal, .shift = 60, .start = start, .pupils = { p1, p2, p3 } };
+    struct kippertarn_queue_record q = {
+        .kinds = 3, .goal = goal, .shift = 60, .start = start, .pupils = { p1, p2, p3 }
+    };
     for (unsigned j = 0; j < 3; j++) {
         q.first[j] = 1;
         q.last[j] = 60;
@@ -21,7 +23,7 @@ static struct queue_record queue_of(unsigned start, unsigned goal, const unsigne
     return q;
 }
 
-static void add_jobs(struct queue_record *q, const char *kinds)
+static void add_jobs(struct kippertarn_queue_record *q, const char *kinds)
 {
     for (; *kinds; kinds++)
         q->kind[q->jobs++] = (unsigned)(*kinds - '0');
@@ -35,15 +37,15 @@ struct measures {
 };
 
 /* Plans a queue by the part, held to the reference on the way, and measures the planned order. */
-static struct measures plan(const char *what, const struct queue_record *q, uint64_t *kept, size_t entries)
+static struct measures plan(const char *what, const struct kippertarn_queue_record *q, uint64_t *kept, size_t entries)
 {
     struct measures m = { 0, 0, 0, "" };
-    struct plan_record planned = { 0 };
+    struct kippertarn_plan_record planned = { 0 };
     uint8_t message[KIPPERTARN_QUEUE_BYTES];
-    size_t length = write_queue_record(q, message, sizeof message);
+    size_t length = kippertarn_write_queue_record(q, message, sizeof message);
     struct ref_answer a = compare_plan(what, message, length, entries, 77);
     unsigned before = q->start;
-    expect(what, (uint64_t)(a.answer % 256 == 0 && read_plan_record(&planned, a.plan, a.plan_bytes)), 1);
+    expect(what, (uint64_t)(a.answer % 256 == 0 && kippertarn_read_plan_record(&planned, a.plan, a.plan_bytes)), 1);
     for (unsigned place = 1; place <= planned.jobs; place++) {
         unsigned i = planned.job[place - 1], j = q->kind[i - 1], moved = i > place ? i - place : place - i;
         m.last_finish += q->gap[before][j - 1];
@@ -59,7 +61,7 @@ static struct measures plan(const char *what, const struct queue_record *q, uint
 
 /* A case of chapter 4, with the source's counts of each category; 0 where it prints no figure, no kinds where it
  * clusters none. */
-static void unconstrained(const char *what, struct queue_record q, unsigned k1, unsigned k2, unsigned k3,
+static void unconstrained(const char *what, struct kippertarn_queue_record q, unsigned k1, unsigned k2, unsigned k3,
                           const char *kinds, uint64_t last_finish, uint64_t waiting)
 {
     uint64_t kept;
@@ -106,7 +108,7 @@ static void chapter_4(void)
  * 761,600". The allowed places hold each category where the text has it. */
 static void further_analysis_of_case_7(unsigned place, const char *kinds, uint64_t waiting)
 {
-    struct queue_record q = queue_of(2, 2, jet_rows, 300, 150, 100);
+    struct kippertarn_queue_record q = queue_of(2, 2, jet_rows, 300, 150, 100);
     uint64_t kept;
     add_jobs(&q, "12323232323");
     q.first[0] = q.last[0] = place;
@@ -121,7 +123,7 @@ static void further_analysis_of_case_7(unsigned place, const char *kinds, uint64
  * place. */
 static struct measures shifted(unsigned goal, unsigned shift, uint64_t *kept)
 {
-    struct queue_record q = queue_of(2, goal, jet_rows, 300, 150, 100);
+    struct kippertarn_queue_record q = queue_of(2, goal, jet_rows, 300, 150, 100);
     q.shift = shift;
     add_jobs(&q, "113223212133212");
     return plan("chapter 5", &q, kept, 630);

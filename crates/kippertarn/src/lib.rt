@@ -1,4 +1,4 @@
-// The C entries. Each answers R + 256 * V: R is 0 or the refusal, V the bytes of the written plan, the needed entries for 16, else 0.
+// The C entries. The checks and planning answer R + 256 * V: R is 0 or the refusal, V the bytes of the written plan, the needed entries for 16, else 0.
 use refusal::Answer;
 use refusal::Reason;
 use refusal::Verdict;
@@ -10,6 +10,7 @@ ghost use Rattle.queue.specs.Reading.{readQueue};
 ghost use Rattle.plan.specs.Reading.{readPlan};
 ghost use Rattle.best_order.specs.Endings.{answerOf};
 ghost use Rattle.best_order.specs.Planning.{endingOn, Planning};
+ghost use Rattle.kippertarn.specs.Version.{version};
 
 // The entries that the reason for 16 holds, else 0.
 fn needed_entries(reason: Reason) -> u64
@@ -79,4 +80,12 @@ pub extern "C" fn kippertarn_plan(message: &[u8], table: &mut [u64], plan: &mut 
 {
     let answer = planner::plan(message, table, plan);
     answer_number(answer)
+}
+
+// The version of the archive, to be matched with the header's.
+#[no_mangle]
+pub extern "C" fn kippertarn_version() -> u64
+    ensures { λ r. ⌜ r ≡ version ⌝ }
+{
+    1002000
 }
