@@ -4,7 +4,6 @@ use plan::Plan;
 use plan_lines::Line;
 use queue::Queue;
 use refusal::Answer;
-use refusal::Group;
 use refusal::Reason;
 use refusal::Verdict;
 
@@ -30,23 +29,14 @@ fn print_line(line: Line) {
     print_number(finish.0, b"\n");
 }
 
-// The word of a group, which ends its line.
-fn print_group(group: Group) {
-    match group {
-        Group::Message => io::write_all(STDOUT_FILENO, b"message\n"),
-        Group::Contents => io::write_all(STDOUT_FILENO, b"contents\n"),
-        Group::Room => io::write_all(STDOUT_FILENO, b"room\n"),
-        Group::Order => io::write_all(STDOUT_FILENO, b"order\n"),
-        Group::Unprinted => io::write_all(STDOUT_FILENO, b"\n"),
-    }
-    ;
-}
-
-// A refusal's number and group.
+// A refusal's number and the word of its group.
 fn print_refusal(reason: Reason) {
+    let word = refusal::group_word(refusal::reason_group(reason));
+    let letters = word.letters;
     io::write_all(STDOUT_FILENO, b"refused ");
     print_number(refusal::reason_number(reason), b" ");
-    print_group(refusal::reason_group(reason));
+    io::write_all(STDOUT_FILENO, &letters[..word.length]);
+    io::write_all(STDOUT_FILENO, b"\n");
 }
 
 // A line for each place.

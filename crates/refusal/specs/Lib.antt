@@ -1,2 +1,3 @@
 pub mod Reasons
+pub mod Words
 pub mod Answers

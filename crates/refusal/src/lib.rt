@@ -1,6 +1,9 @@
-// Document 01's refusals: the one vocabulary of reasons, their numbers, and the group that the program prints.
+// Document 01's refusals: the one vocabulary of reasons, their numbers, and the group and word that the program prints.
+ghost use Prim.Native.Nat.{_≤_};
 ghost use mathlib.Core.Path.{_≡_};
+ghost use lib.ListN.{length};
 ghost use Rattle.refusal.specs.Reasons.{reasonNumber, reasonGroup, numberGroup};
+ghost use Rattle.refusal.specs.Words.{wordOf};
 
 // Why a call is refused: one case for each row of 01's table of checks, in its order, 1 to 18.
 pub enum Reason {
@@ -50,6 +53,12 @@ pub enum Group {
     Order,
     // The program cannot meet this refusal.
     Unprinted,
+}
+
+// A group's word: its first `length` letters, then 0.
+pub struct Word {
+    pub letters: [u8; 8],
+    pub length: usize,
 }
 
 // How reading a message ends.
@@ -116,4 +125,33 @@ pub fn reason_group(reason: Reason) -> Group
     ensures { λ r. ⌜ r ≡ reasonGroup reason ⌝ }
 {
     number_group(reason_number(reason))
+}
+
+// The word of a group.
+pub fn group_word(group: Group) -> Word
+    ensures { λ r. ⌜ r ≡ wordOf group ⌝ }
+    ensures { λ r. ⌜ r .length ≤ length (r .letters) ⌝ }
+{
+    match group {
+        Group::Message => Word {
+            letters: *b"message\0",
+            length: 7,
+        },
+        Group::Contents => Word {
+            letters: *b"contents",
+            length: 8,
+        },
+        Group::Room => Word {
+            letters: *b"room\0\0\0\0",
+            length: 4,
+        },
+        Group::Order => Word {
+            letters: *b"order\0\0\0",
+            length: 5,
+        },
+        Group::Unprinted => Word {
+            letters: [0; 8],
+            length: 0,
+        },
+    }
 }
