@@ -1,65 +1,70 @@
--- A loop that reads one thing after the other and stores each: what it has stored when all were found.
+-- A loop that reads one thing after the other and stores each: how it ends, and what it has stored, refused or not.
 -- Assumes nothing.
 use Prim.Native.Nat.{ℕ, suc, _+_, _-_, _<_, _≤_}
 use mathlib.Core.Path.{_≡_, refl, sym, ap, _∙_}
 use mathlib.Core.List.{List, [], _∷_}
 use native.Mathlib.Omega.{arith}
+use native.Mathlib.Nat.{add-zero}
 use native.Mathlib.Numerals.{add-one}
+use lib.ListN.{length, set, length-set}
+use lib.Seq.{sets}
 use Rattle.refusal.specs.declared.Reason.{Reason}
-use Rattle.number.specs.Readers.{Found, found, refused, Reader}
-use Rattle.number.proofs.Steps.{went-on, found-value, found-next, not-found}
+use Rattle.number.specs.Readers.{Found, found, refused, Reader, times}
 use Rattle.fields.specs.declared.Outcome.the-variants.{Next, Refused as Stopped}
-use Rattle.fields.specs.Orders.{inOrder}
+use Rattle.fields.specs.Orders.{inOrder, readBefore}
 use Rattle.fields.specs.Answers.{asOutcome}
-use Rattle.fields.proofs.Orders.{order-none, order-more, order-stop, outcome-step}
+use Rattle.fields.proofs.Orders.{outcome-more, kept, times-in-order}
+use Rattle.fields.proofs.Runs.{Listing, in-order}
 
--- one step of a run that was found
-step-found : {S A : Type 0} (one : S → Reader A) (step : S → A → S) (s : List ℕ) (state : S) (n n′ i : ℕ) (a : A) (next : ℕ) → 0 < n → n′ ≡ n - 1 → one state s i ≡ found a next
-    → (rest : List A) (m : ℕ) → inOrder one step n state s i ≡ found rest m → (more : List A) × (inOrder one step n′ (step state a) s next ≡ found more m) × (rest ≡ a ∷ more)
-step-found one step s state n n′ i a next h d e rest m f =
-    let (more, l, r, q) = went-on (inOrder one step (n - 1) (step state a) s next) (λ more j. found (a ∷ more) j) rest m (sym (order-more one step s state i n a next h e) ∙ f) in
-    (more, rw d (r ∙ ap (found more) (found-next (a ∷ more) rest l m q)), sym (found-value (a ∷ more) rest l m q))
-
--- before thing k, at position i: `whole` is what the run finds, `state` what the things before k left,
+-- before thing k, at position i: `whole` is what the run finds, `left` what it leaves, `state` what the things before k left,
 -- and `store st k xs` is st with the things xs stored from number k on
-pub record Looping {S A T : Type 0} (one : S → Reader A) (step : S → A → S) (s : List ℕ) (store : T → ℕ → List A → T) (count : ℕ) (whole : Found (List A)) (st₀ : T) (state : S) (st : T) (i k : ℕ) : Type 0 where
+pub record Looping {S A T : Type 0} {one : S → Reader A} {step : S → A → S} {s : List ℕ} {cut : ℕ → List A} {before : ℕ → S → ℕ → List A}
+    (l : Listing one step s cut before) (store : T → ℕ → List A → T) (count : ℕ) (whole : Found (List A)) (left : T)
+    (state : S) (st : T) (i k : ℕ) : Type 0 where
   pub ends : asOutcome whole ≡ asOutcome (inOrder one step (count - k) state s i)
-  pub means : (xs : List A) (n : ℕ) → whole ≡ found xs n
-      → (rest : List A) × (inOrder one step (count - k) state s i ≡ found rest n) × (store st₀ 0 xs ≡ store st k rest)
+  pub means : left ≡ store st k (before (count - k) state i)
 
-module _ {S A T : Type 0} {one : S → Reader A} {step : S → A → S} {s : List ℕ} {store : T → ℕ → List A → T} {count : ℕ} {whole : Found (List A)} {st₀ : T} where
-  pub loop-none : {state : S} {at : ℕ} → whole ≡ inOrder one step count state s at → Looping one step s store count whole st₀ state st₀ at 0
-  loop-none e =
-      let d : count - 0 ≡ count = omega arith in
-      record { ends = rw d (ap asOutcome e); means = λ xs n f. (xs, rw d (sym e ∙ f), refl) }
+module _ {S A T : Type 0} {one : S → Reader A} {step : S → A → S} {s : List ℕ} {cut : ℕ → List A} {before : ℕ → S → ℕ → List A}
+    {l : Listing one step s cut before} {store : T → ℕ → List A → T} {count : ℕ} {whole : Found (List A)} {left : T} where
+  pub loop-none : {state : S} {st : T} {at : ℕ} → whole ≡ inOrder one step count state s at → left ≡ store st 0 (before count state at)
+      → Looping l store count whole left state st at 0
+  loop-none e f = let d : count - 0 ≡ count = omega arith in record { ends = rw d (ap asOutcome e); means = rw d f }
 
-  module _ {state : S} {st : T} {i k : ℕ} (w : Looping one step s store count whole st₀ state st i k) where
-    pub loop-more : (a : A) (next : ℕ) (st′ : T) → k < count → one state s i ≡ found a next
-        → ((rest : List A) → store st k (a ∷ rest) ≡ store st′ (suc k) rest) → Looping one step s store count whole st₀ (step state a) st′ next (k + 1)
-    loop-more a next st′ h e put =
-        let g : count - (k + 1) ≡ count - k - 1 = omega arith in
-        record {
-          ends = rw g (w .ends ∙ outcome-step one step s state i (count - k) a next (omega arith) e);
-          means = λ xs n f.
-              let (rest, r, q) = w .means xs n f in
-              let x = step-found one step s state (count - k) (count - (k + 1)) i a next (omega arith) (omega arith) e rest n r in
-              (x .0, x .1, q ∙ ap (store st k) (x .2) ∙ put (x .0) ∙ ap (λ (m : ℕ). store st′ m (x .0)) (sym (add-one k)));
-        }
+  module _ {state : S} {st : T} {i k : ℕ} (w : Looping l store count whole left state st i k) where
+    module _ (h : k < count) where
+      again : count - k ≡ suc (count - suc k)
+      again = omega arith
 
-    module _ (r : Reason) (h : k < count) (e : one state s i ≡ refused r) where
-      pub loop-stop : Stopped r ≡ asOutcome whole
-      loop-stop = sym (w .ends ∙ ap asOutcome (order-stop one step s state i (count - k) r (omega arith) e))
+      pub loop-more : (a : A) (next : ℕ) (st′ : T) → one state s i ≡ found a next → ((rest : List A) → store st k (a ∷ rest) ≡ store st′ (suc k) rest)
+          → Looping l store count whole left (step state a) st′ next (k + 1)
+      unfolding inOrder
+      loop-more a next st′ e put =
+          let rest = before (count - suc k) (step state a) next in
+          rw (add-one k) (record {
+            ends = w .ends ∙ rw (again, e) (outcome-more (inOrder one step (count - suc k) (step state a) s next) (λ more. a ∷ more));
+            means = w .means ∙ rw (again, l .more (count - suc k) state i a next e) (put rest);
+          })
 
-      -- a run that stops has found nothing whole
-      pub loop-stopped : {B : Type 0} (xs : List A) (n : ℕ) → whole ≡ found xs n → B
-      loop-stopped xs n f = let (rest, q, _) = w .means xs n f in not-found r rest n (sym (order-stop one step s state i (count - k) r (omega arith) e) ∙ q)
+      pub loop-stop : (r : Reason) → one state s i ≡ refused r → (Stopped r ≡ asOutcome whole) × (store st k (cut i) ≡ left)
+      unfolding inOrder
+      loop-stop r e = (sym (w .ends ∙ rw (again, e)), sym (w .means ∙ rw (again, l .stop (count - suc k) state i r e)))
 
-    module _ (h : count ≤ k) where
-      pub loop-done : Next i ≡ asOutcome whole
-      loop-done = sym (w .ends ∙ ap asOutcome (order-none one step s state i (count - k) (omega arith)))
+    pub loop-done : count ≤ k → (Next i ≡ asOutcome whole) × (store st k [] ≡ left)
+    unfolding inOrder
+    loop-done h = let z : count - k ≡ 0 = omega arith in (sym (w .ends ∙ rw z), sym (w .means ∙ rw (z, l .none state i)))
 
-      pub loop-stored : store st k [] ≡ st → (xs : List A) (n : ℕ) → whole ≡ found xs n → st ≡ store st₀ 0 xs
-      loop-stored none xs n f =
-          let (rest, q, e) = w .means xs n f in
-          let z : [] ≡ rest = found-value [] rest i n (sym (order-none one step s state i (count - k) (omega arith)) ∙ q) in
-          sym (e ∙ ap (store st k) (sym z) ∙ none)
+-- numbers that are stored from position `from` of an array on
+pub record Running (one : Reader ℕ) (s : List ℕ) (count at : ℕ) (out₀ : List ℕ) (from : ℕ) (out : List ℕ) (i k : ℕ) : Type 0 where
+  pub long : length out ≡ length out₀
+  pub loop : Looping (in-order (λ _. one) kept s) (λ out k. sets out (from + k)) count (times count one s at)
+      (sets out₀ from (readBefore count one s at)) tt out i k
+
+module _ {one : Reader ℕ} {s : List ℕ} {count at : ℕ} {out₀ : List ℕ} {from : ℕ} where
+  pub run-none : Running one s count at out₀ from out₀ at 0
+  run-none = record { long = refl; loop = loop-none (times-in-order one count s at) (rw (add-zero from)) }
+
+  pub run-more : {out : List ℕ} {i k : ℕ} → Running one s count at out₀ from out i k → (v next : ℕ) → k < count → one s i ≡ found v next
+      → Running one s count at out₀ from (set out (from + k) v) next (k + 1)
+  run-more {out} {i} {k} w v next h e =
+      let p : from + suc k ≡ suc (from + k) = omega arith in
+      record { long = simp length-set (w .long); loop = loop-more (w .loop) h v next (set out (from + k) v) e (λ rest. rw p) }

@@ -1,13 +1,12 @@
 -- Runs in which each thing is judged by what the earlier ones left: one step at a time, runs that leave nothing, runs that leave it all.
 -- Assumes nothing.
-use Prim.Native.Nat.{ℕ, zero, suc, _-_, _<_}
-use mathlib.Core.Path.{_≡_, refl, ap, _∙_}
+use Prim.Native.Nat.{ℕ, zero, suc, _<_}
+use mathlib.Core.Path.{_≡_, refl, ap}
 use mathlib.Core.Bool.{Bool, true, _&&_}
 use mathlib.Core.Logic.{_↔_}
 use mathlib.Core.List.{List, [], _∷_, _++_, append-assoc, append-nil}
 use native.Mathlib.Omega.{arith}
 use lib.ListN.{length, getD, take}
-use Rattle.refusal.specs.declared.Reason.{Reason}
 use Rattle.number.specs.Readers.{Found, found, refused, Reader, andThen, times}
 use Rattle.fields.specs.Fields.{all}
 use Rattle.fields.specs.Orders.{inOrder, allInOrder, followedBy}
@@ -16,29 +15,9 @@ use Rattle.fields.proofs.Judged.{and-true}
 use Rattle.fields.proofs.Local.{and-same}
 
 -- a step that goes on does not change how the run ends
-outcome-more : {A B : Type 0} (f : Found A) (g : A → B) → asOutcome (andThen f (λ a j. found (g a) j)) ≡ asOutcome f
+pub outcome-more : {A B : Type 0} (f : Found A) (g : A → B) → asOutcome (andThen f (λ a j. found (g a) j)) ≡ asOutcome f
 outcome-more (found a n) g = refl
 outcome-more (refused r) g = refl
-
-module _ {S A : Type 0} (one : S → Reader A) (step : S → A → S) (s : List ℕ) (state : S) (i : ℕ) where
-  pub order-none : (n : ℕ) → n ≡ 0 → inOrder one step n state s i ≡ found [] i
-  unfolding inOrder
-  order-none n h = rw h
-
-  pub order-more : (n : ℕ) (a : A) (j : ℕ) → 0 < n → one state s i ≡ found a j
-      → inOrder one step n state s i ≡ andThen (inOrder one step (n - 1) (step state a) s j) (λ more k. found (a ∷ more) k)
-  unfolding inOrder
-  order-more zero a j h e = absurd (omega arith)
-  order-more (suc n) a j h e = let p : suc n - 1 ≡ n = omega arith in rw (e, p)
-
-  pub order-stop : (n : ℕ) (r : Reason) → 0 < n → one state s i ≡ refused r → inOrder one step n state s i ≡ refused r
-  unfolding inOrder
-  order-stop zero r h e = absurd (omega arith)
-  order-stop (suc n) r h e = rw e
-
-  pub outcome-step : (n : ℕ) (a : A) (j : ℕ) → 0 < n → one state s i ≡ found a j
-      → asOutcome (inOrder one step n state s i) ≡ asOutcome (inOrder one step (n - 1) (step state a) s j)
-  outcome-step n a j h e = ap asOutcome (order-more n a j h e) ∙ outcome-more (inOrder one step (n - 1) (step state a) s j) (λ more. a ∷ more)
 
 -- ---- nothing is left, so each thing is judged by itself
 

@@ -1,11 +1,11 @@
 -- 01: "each number is first read (2, 3), then judged, before the next".
-use Prim.Native.Nat.{ℕ, zero, suc}
+use Prim.Native.Nat.{ℕ}
 use mathlib.Core.Bool.{Bool, true, cond, _&&_}
 use mathlib.Core.List.{List, [], _∷_, flatMap}
 use lib.Dec.{leb}
 use lib.ListN.{take, drop}
 use Rattle.refusal.specs.declared.Reason.{Reason}
-use Rattle.number.specs.Readers.{Found, found, refused, Reader, andThen}
+use Rattle.number.specs.Readers.{found, refused, Reader, andThen}
 use Rattle.number.specs.Numbers.{number, encode}
 
 -- a number of at most g groups that passes the test; any other gets the refusal
@@ -15,16 +15,6 @@ field g ok why s at = andThen (number g s at) (λ v n. cond (ok v) (found v n) (
 -- from low to high
 abbrev pub within : ℕ → ℕ → ℕ → Bool
 within low high v = leb low v && leb v high
-
--- what a run of n readings has found before its first refusal
-abbrev pub onward : Found ℕ → (ℕ → List ℕ) → List ℕ
-onward (found v i) rest = v ∷ rest i
-onward (refused r) rest = []
-
--- the values of such a run from a position on, up to its first refusal
-unfoldable pub readBefore : ℕ → Reader ℕ → List ℕ → ℕ → List ℕ
-readBefore zero one s at = []
-readBefore (suc n) one s at = onward (one s at) (readBefore n one s)
 
 -- everything in a list passes the test
 unfoldable pub all : {A : Type 0} → (A → Bool) → List A → Bool

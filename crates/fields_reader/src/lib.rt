@@ -8,7 +8,8 @@ ghost use Prim.Native.Nat.{_+_, _≤_};
 ghost use lib.ListN.{length, getD};
 ghost use lib.Seq.{sets};
 ghost use Rattle.number.specs.Readers.{times};
-ghost use Rattle.fields.specs.Fields.{field, within, readBefore};
+ghost use Rattle.fields.specs.Fields.{field, within};
+ghost use Rattle.fields.specs.Orders.{readBefore};
 ghost use Rattle.fields.specs.Messages.{opens};
 ghost use Rattle.fields.specs.Answers.{asField, asOutcome};
 

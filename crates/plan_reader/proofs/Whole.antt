@@ -2,7 +2,7 @@
 -- Assumes nothing.
 use Prim.Native.Nat.{ℕ, _≤_}
 use mathlib.Core.Path.{_≡_, refl, ap, _∙_}
-use mathlib.Core.List.{List}
+use mathlib.Core.List.{List, []}
 use native.Mathlib.Omega.{arith}
 use lib.ListN.{length}
 use borrow.Author.Tests.{eq-eqb, ne-eqb}
@@ -15,11 +15,14 @@ use Rattle.number.proofs.Steps.{went-on, found-value}
 use Rattle.fields.specs.Fields.{field, within}
 use Rattle.fields.specs.Lists.{filled}
 use Rattle.fields.specs.Messages.{opening, end}
+use Rattle.fields.specs.Orders.{followedBy}
+use Rattle.fields.proofs.Runs.{all-listed, in-order}
 use Rattle.fields.proofs.Judged.{field-found, within-true}
 use Rattle.plan.specs.declared.Plan.{Plan}
 use Rattle.plan_reader.specs.declared.Front.{Front}
 use Rattle.plan_reader.specs.declared.FrontRead.the-variants.{Value, Refused}
 use Rattle.plan.specs.Reading.{order, plan, planOf, asReading, readPlan}
+use Rattle.plan_reader.specs.Jobs.{jobAfter, orderBefore}
 use Rattle.plan_reader.specs.Fronts.{start, front, frontOf, asFront}
 
 -- what the code's answer says of the definition's
@@ -86,7 +89,9 @@ module _ (s : List ℕ) where
       unfolding readPlan
       whole-trailing h = rw (← plan-front s 0, e, o, ne-eqb m (length s) h)
 
-      pub whole-plan : (l : List ℕ) → l ≡ filled 60 js → m ≡ length s
+      pub whole-plan : (l : List ℕ) → l ≡ filled 60 (orderBefore (f .jobs) s (f .next)) → m ≡ length s
           → record { verdict = Accepted; plan = record { goal = f .goal; cost = f .cost; «feasible_states» = f .«feasible_states»; jobs = f .jobs; order = l } } ≡ readPlan s
       unfolding readPlan
-      whole-plan l k h = rw (← plan-front s 0, e, o, eq-eqb m (length s) h, k)
+      whole-plan l k h =
+          let all : orderBefore (f .jobs) s (f .next) ≡ js = all-listed (in-order (jobAfter (f .jobs)) followedBy s) (f .jobs) [] (f .next) js m o in
+          rw (← plan-front s 0, e, o, eq-eqb m (length s) h, k, all)

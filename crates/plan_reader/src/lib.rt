@@ -7,17 +7,14 @@ use plan::Reading;
 use refusal::Reason;
 use refusal::Verdict;
 ghost use mathlib.Core.Path.{_≡_};
-ghost use mathlib.Core.List.{List};
-ghost use Prim.Native.Nat.{ℕ, _≤_};
+ghost use Prim.Native.Nat.{_≤_};
 ghost use lib.ListN.{length, take};
 ghost use lib.Seq.{sets};
-ghost use Rattle.number.specs.Readers.{found, refused};
-ghost use Rattle.fields.specs.Fields.{field};
+ghost use Rattle.number.specs.Readers.{refused};
 ghost use Rattle.fields.specs.Answers.{asField, asOutcome};
-ghost use Rattle.refusal.specs.declared.Reason.the-variants.{Job};
-ghost use Rattle.plan.specs.Record.{fresh};
 ghost use Rattle.plan.specs.Reading.{order, asReading, readPlan};
 ghost use Rattle.plan_reader.specs.Fronts.{start, front, asFront};
+ghost use Rattle.plan_reader.specs.Jobs.{jobAfter, orderBefore};
 
 // The numbers before the jobs, and the position behind them.
 struct Front {
@@ -36,7 +33,7 @@ enum FrontRead {
 
 // The job at the place after the first `places`.
 fn read_job(bytes: &[u8], at: usize, order: &[u8], places: usize, jobs: u32) -> Field
-    ensures { λ r. ⌜ r ≡ asField (field 3 (fresh jobs (take places (now (order .entry)))) Job (now (bytes .entry)) at) ⌝ }
+    ensures { λ r. ⌜ r ≡ asField (jobAfter jobs (take places (now (order .entry))) (now (bytes .entry)) at) ⌝ }
 {
     match fields_reader::read_field(bytes, at, 1, jobs, Reason::Job) {
         Field::Value { value, next } => {
@@ -49,11 +46,11 @@ fn read_job(bytes: &[u8], at: usize, order: &[u8], places: usize, jobs: u32) -> 
     }
 }
 
-// The job at each place, stored in `out`.
+// The job at each place, up to the first that is refused, stored in `out`.
 fn read_order(bytes: &[u8], at: usize, jobs: u32, out: &mut [u8]) -> Outcome
     requires { ⌜ (jobs ≤ 60) × (jobs ≤ length (now out)) ⌝ }
     ensures { λ r. ⌜ r ≡ asOutcome (order jobs (now (bytes .entry)) at) ⌝ }
-    ensures { λ _. ⌜ ((js : List ℕ) (n : ℕ) → order jobs (now (bytes .entry)) at ≡ found js n → now (out .exit) ≡ sets (now (out .entry)) 0 js) ⌝ }
+    ensures { λ _. ⌜ now (out .exit) ≡ sets (now (out .entry)) 0 (orderBefore jobs (now (bytes .entry)) at) ⌝ }
 {
     let mut i = at;
     let mut k: usize = 0;

@@ -2,12 +2,12 @@
 -- Assumes nothing.
 use Prim.Native.Nat.{ℕ}
 use mathlib.Core.Path.{_≡_}
-use mathlib.Core.List.{List, map}
+use mathlib.Core.List.{List}
 use lib.ListN.{replicate}
 use Rattle.fields.specs.Lists.{filled}
 use Rattle.queue.specs.declared.Queue.{Queue}
 use Rattle.queue.specs.declared.Settings.{Settings}
-use Rattle.queue.specs.Reading.{placed, headOf, withJobs}
+use Rattle.queue.specs.Reading.{withJobs}
 
 module _ (f : Settings) (gaps weights first last : List ℕ) where
   abbrev pub headFrom : Queue
@@ -23,10 +23,6 @@ module _ (f : Settings) (gaps weights first last : List ℕ) where
     jobs = 0;
     «job_kinds» = replicate 60 0;
   }
-
-  pub head-is : (rows : List (List ℕ)) (ws : List ℕ) (windows : List (ℕ × ℕ)) → gaps ≡ placed (replicate 30 0) 0 rows → weights ≡ filled 5 ws
-      → (first ≡ filled 5 (map (λ w. w .0) windows)) × (last ≡ filled 5 (map (λ w. w .1) windows)) → headFrom ≡ headOf f rows ws windows
-  head-is rows ws windows g w p = rw (g, w, p .0, p .1)
 
 module _ (q : Queue) (t : ℕ) (array : List ℕ) where
   abbrev pub withArray : Queue

@@ -1,71 +1,77 @@
 -- What the reader's last parts are read as.
 -- Assumes nothing.
-use Prim.Native.Nat.{ℕ}
-use mathlib.Core.Path.{_≡_, refl, ap, _∙_}
+use Prim.Native.Nat.{ℕ, _+_}
+use mathlib.Core.Path.{_≡_, refl, sym, ap, _∙_}
 use mathlib.Core.Logic.{inl, inr}
-use mathlib.Core.List.{List}
+use mathlib.Core.List.{List, map}
 use lib.Dec.{eqb}
 use lib.ListN.{length, replicate}
 use lib.Seq.{sets}
 use Rattle.refusal.specs.declared.Reason.{Reason}
 use Rattle.refusal.specs.declared.Reason.the-variants.{Jobs}
-use Rattle.number.specs.Readers.{Found, found, refused, andThen, times}
-use Rattle.number.proofs.Steps.{bool-cases, went-on, found-value, found-next}
+use Rattle.number.specs.Readers.{Found, found, refused, times}
+use Rattle.number.proofs.Steps.{bool-cases}
 use Rattle.fields.specs.declared.Outcome.{Outcome}
-use Rattle.fields.specs.Fields.{field, within, readBefore}
+use Rattle.fields.specs.Fields.{field, within}
+use Rattle.fields.specs.Lists.{filled}
+use Rattle.fields.specs.Orders.{readBefore}
 use Rattle.fields.specs.Answers.{asOutcome}
+use Rattle.fields.proofs.Orders.{outcome-more}
 use Rattle.fields.proofs.Runs.{before-found}
 use Rattle.queue.specs.declared.Queue.{Queue}
 use Rattle.queue.specs.declared.Settings.{Settings}
-use Rattle.queue.specs.Reading.{window, headOf, tables, jobs, closed, asReading}
-use Rattle.queue_reader.proofs.Chains.{weightField, kindField, rowsAt, no-weights, no-windows, all-tables, no-kinds, left-over, all-jobs}
+use Rattle.queue.specs.Reading.{window, placed, tables, jobs, closed, asReading}
+use Rattle.queue_reader.proofs.Loops.{rows-found}
+use Rattle.queue_reader.proofs.Chains.{gapField, weightField, kindField, rowsAt, no-weights, no-windows, all-tables, no-kinds, left-over, all-jobs}
+use Rattle.queue_reader.specs.Arrays.{rowsBefore, windowsBefore}
 use Rattle.queue_reader.specs.Answers.{asHead, limits, headEnding, readingEnding}
-use Rattle.queue_reader.proofs.Built.{withArray, jobs-are}
-
--- a step that only adds to what was found ends where that ends
-same-end : {A B : Type 0} (f : Found A) (g : A → B) → asOutcome f ≡ asOutcome (andThen f (λ a n. found (g a) n))
-same-end (found a n) g = refl
-same-end (refused r) g = refl
+use Rattle.queue_reader.proofs.Built.{headFrom, withArray, jobs-are}
 
 module _ (k : ℕ) (s : List ℕ) (at : ℕ) where
   pub no-limits : (r : Reason) → times k weightField s at ≡ refused r → limits k s at ≡ refused r
   unfolding limits
   no-limits r g = rw g
 
-  module _ (ws : List ℕ) (a : ℕ) (g : times k weightField s at ≡ found ws a) where
-    pub limits-end : asOutcome (times k window s a) ≡ asOutcome (limits k s at)
-    unfolding limits
-    limits-end = rw g (same-end (times k window s a) (λ windows. (ws, windows)))
-
-    pub all-limits : (windows : List (ℕ × ℕ)) (n : ℕ) → times k window s a ≡ found windows n → limits k s at ≡ found (ws, windows) n
-    unfolding limits
-    all-limits windows n h = rw (g, h)
-
-    pub limits-found : (vs : List ℕ) (windows : List (ℕ × ℕ)) (n : ℕ) → limits k s at ≡ found (vs, windows) n
-        → (ws ≡ vs) × (times k window s a ≡ found windows n)
-    unfolding limits
-    limits-found vs windows n e =
-        let (us, m, h, p) = went-on (times k window s a) (λ us m. found (ws, us) m) (vs, windows) n (rw g at e) in
-        let q = found-value (ws, us) (vs, windows) m n p in
-        (ap (λ (l : List ℕ × List (ℕ × ℕ)). l .0) q, h ∙ (λ i. found (q i .1) (found-next (ws, us) (vs, windows) m n p i)))
+  pub limits-end : (ws : List ℕ) (a : ℕ) → times k weightField s at ≡ found ws a → asOutcome (times k window s a) ≡ asOutcome (limits k s at)
+  unfolding limits
+  limits-end ws a g = rw g (sym (outcome-more (times k window s a) (λ windows. (ws, windows))))
 
 -- the head that ends as the weights and the windows end
-module _ (f : Settings) (s : List ℕ) (at : ℕ) (rows : List (List ℕ)) (a : ℕ) (e : rowsAt f s at ≡ found rows a) (outcome : Outcome) (q : Queue)
-    (o : outcome ≡ asOutcome (limits (f .kinds) s a))
-    (is : (ws : List ℕ) (windows : List (ℕ × ℕ)) (n : ℕ) → limits (f .kinds) s a ≡ found (ws, windows) n → q ≡ headOf f rows ws windows) where
-  pub tables-end : headEnding outcome q ≡ asHead (tables f s at)
-  tables-end = weighed (times (f .kinds) weightField s a) refl
-    where
-      placed : (ws : List ℕ) (b : ℕ) → times (f .kinds) weightField s a ≡ found ws b → (w : Found (List (ℕ × ℕ))) → times (f .kinds) window s b ≡ w
-          → headEnding outcome q ≡ asHead (tables f s at)
-      placed ws b g (found windows n) h =
-          let l = all-limits (f .kinds) s a ws b g windows n h in
-          rw (o, l, all-tables f s at rows a e ws b g windows n h, is ws windows n l)
-      placed ws b g (refused r) h = rw (o, ← (limits-end (f .kinds) s a ws b g), h, no-windows f s at rows a e ws b g r h)
+module _ (f : Settings) (s : List ℕ) (at : ℕ) (rows : List (List ℕ)) (a : ℕ) (e : rowsAt f s at ≡ found rows a)
+    (outcome : Outcome) (gaps weights first last : List ℕ) (o : outcome ≡ asOutcome (limits (f .kinds) s a))
+    (g : gaps ≡ placed (replicate 30 0) 0 (rowsBefore (f .kinds + 1) (f .kinds) gapField s at))
+    (w : weights ≡ filled 5 (readBefore (f .kinds) weightField s a))
+    (p : (first ≡ filled 5 (map (λ w. w .0) (windowsBefore (f .kinds) s a))) × (last ≡ filled 5 (map (λ w. w .1) (windowsBefore (f .kinds) s a)))) where
+  abbrev Ends : Type 0
+  Ends = headEnding outcome (headFrom f gaps weights first last) ≡ asHead (tables f s at)
 
-      weighed : (w : Found (List ℕ)) → times (f .kinds) weightField s a ≡ w → headEnding outcome q ≡ asHead (tables f s at)
-      weighed (found ws b) g = placed ws b g (times (f .kinds) window s b) refl
-      weighed (refused r) g = rw (o, no-limits (f .kinds) s a r g, no-weights f s at rows a e r g)
+  module _ (ws : List ℕ) (b : ℕ) (h : times (f .kinds) weightField s a ≡ found ws b) where
+    weighed : (read : Found (List (ℕ × ℕ))) → times (f .kinds) window s b ≡ read → Ends
+    weighed (found windows n) k =
+        let same-rows = rows-found (f .kinds + 1) (f .kinds) gapField s at rows a e in
+        let same-weights = before-found weightField s (f .kinds) a ws b h in
+        let same-windows : windowsBefore (f .kinds) s a ≡ windows = rw h (before-found window s (f .kinds) b windows n k) in
+        rw (
+          o,
+          ← (limits-end (f .kinds) s a ws b h),
+          k,
+          all-tables f s at rows a e ws b h windows n k,
+          g,
+          same-rows,
+          w,
+          same-weights,
+          p .0,
+          p .1,
+          same-windows,
+        )
+    weighed (refused r) k = rw (o, ← (limits-end (f .kinds) s a ws b h), k, no-windows f s at rows a e ws b h r k)
+
+  pub tables-end : Ends
+  tables-end = go (times (f .kinds) weightField s a) refl
+    where
+      go : (read : Found (List ℕ)) → times (f .kinds) weightField s a ≡ read → Ends
+      go (found ws b) h = weighed ws b h (times (f .kinds) window s b) refl
+      go (refused r) h = rw (o, no-limits (f .kinds) s a r h, no-weights f s at rows a e r h)
 
 -- the message that ends as the kinds of the jobs end
 module _ (q : Queue) (s : List ℕ) (at t a : ℕ) (e : field 3 (within 0 60) Jobs s at ≡ found t a) (outcome : Outcome) (array : List ℕ)

@@ -8,15 +8,17 @@ use queue::Settings;
 use refusal::Reason;
 use refusal::Verdict;
 ghost use mathlib.Core.Path.{_≡_};
-ghost use mathlib.Core.List.{List, map};
-ghost use Prim.Native.Nat.{ℕ, _+_, _≤_};
+ghost use mathlib.Core.List.{map};
+ghost use Prim.Native.Nat.{_+_, _≤_};
 ghost use lib.ListN.{length};
 ghost use lib.Seq.{sets};
-ghost use Rattle.number.specs.Readers.{found, refused, times};
+ghost use Rattle.number.specs.Readers.{refused, times};
 ghost use Rattle.fields.specs.Fields.{field, within};
+ghost use Rattle.fields.specs.Orders.{readBefore};
 ghost use Rattle.fields.specs.Answers.{asOutcome};
 ghost use Rattle.fields.specs.Lists.{filled};
 ghost use Rattle.queue.specs.Reading.{window, placed, settings, tables, head, jobs, closed, asReading, readQueue};
+ghost use Rattle.queue_reader.specs.Arrays.{rowsBefore, windowsBefore};
 ghost use Rattle.queue_reader.specs.Answers.{asFront, asPlaces, asHead, limits, headEnding, readingEnding};
 
 // What reading the settings finds: they and the position behind them, or the refusal.
@@ -88,7 +90,7 @@ fn read_settings(bytes: &[u8], at: usize) -> Front
 fn read_gaps(bytes: &[u8], at: usize, kinds: usize, gaps: &mut [u32]) -> Outcome
     requires { ⌜ (kinds ≤ 5) × (30 ≤ length (now gaps)) ⌝ }
     ensures { λ r. ⌜ r ≡ asOutcome (times (kinds + 1) (times kinds (field 3 (within 0 65535) Reason.Gap)) (now (bytes .entry)) at) ⌝ }
-    ensures { λ _. ⌜ ((rows : List (List ℕ)) (n : ℕ) → times (kinds + 1) (times kinds (field 3 (within 0 65535) Reason.Gap)) (now (bytes .entry)) at ≡ found rows n → now (gaps .exit) ≡ placed (now (gaps .entry)) 0 rows) ⌝ }
+    ensures { λ _. ⌜ now (gaps .exit) ≡ placed (now (gaps .entry)) 0 (rowsBefore (kinds + 1) kinds (field 3 (within 0 65535) Reason.Gap) (now (bytes .entry)) at) ⌝ }
 {
     let mut i = at;
     let mut row: usize = 0;
@@ -150,7 +152,8 @@ fn read_window(bytes: &[u8], at: usize) -> WindowRead
 fn read_windows(bytes: &[u8], at: usize, kinds: usize, first: &mut [u8], last: &mut [u8]) -> Outcome
     requires { ⌜ (kinds ≤ length (now first)) × (kinds ≤ length (now last)) ⌝ }
     ensures { λ r. ⌜ r ≡ asOutcome (times kinds window (now (bytes .entry)) at) ⌝ }
-    ensures { λ _. ⌜ ((windows : List (ℕ × ℕ)) (n : ℕ) → times kinds window (now (bytes .entry)) at ≡ found windows n → (now (first .exit) ≡ sets (now (first .entry)) 0 (map (λ w. w .0) windows)) × (now (last .exit) ≡ sets (now (last .entry)) 0 (map (λ w. w .1) windows))) ⌝ }
+    ensures { λ _. ⌜ now (first .exit) ≡ sets (now (first .entry)) 0 (map (λ w. w .0) (readBefore kinds window (now (bytes .entry)) at)) ⌝ }
+    ensures { λ _. ⌜ now (last .exit) ≡ sets (now (last .entry)) 0 (map (λ w. w .1) (readBefore kinds window (now (bytes .entry)) at)) ⌝ }
 {
     let mut i = at;
     let mut kind: usize = 0;
@@ -178,7 +181,9 @@ fn read_windows(bytes: &[u8], at: usize, kinds: usize, first: &mut [u8], last: &
 fn read_limits(bytes: &[u8], at: usize, kinds: usize) -> Limits
     requires { ⌜ kinds ≤ 5 ⌝ }
     ensures { λ r. ⌜ r .outcome ≡ asOutcome (limits kinds (now (bytes .entry)) at) ⌝ }
-    ensures { λ r. ⌜ ((ws : List ℕ) (windows : List (ℕ × ℕ)) (n : ℕ) → limits kinds (now (bytes .entry)) at ≡ found (ws, windows) n → (r .weights ≡ filled 5 ws) × (r .«first_places» ≡ filled 5 (map (λ w. w .0) windows)) × (r .«last_places» ≡ filled 5 (map (λ w. w .1) windows))) ⌝ }
+    ensures { λ r. ⌜ r .weights ≡ filled 5 (readBefore kinds (field 3 (within 0 1000) Reason.Pupils) (now (bytes .entry)) at) ⌝ }
+    ensures { λ r. ⌜ r .«first_places» ≡ filled 5 (map (λ w. w .0) (windowsBefore kinds (now (bytes .entry)) at)) ⌝ }
+    ensures { λ r. ⌜ r .«last_places» ≡ filled 5 (map (λ w. w .1) (windowsBefore kinds (now (bytes .entry)) at)) ⌝ }
 {
     let mut weights = [0u32; 5];
     let mut first_places = [0u8; 5];

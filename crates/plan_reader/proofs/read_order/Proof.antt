@@ -1,13 +1,14 @@
 -- `plan_reader::read_order` meets its contract: `Ordering` is the invariant; the places left to read fall.
 -- Assumes nothing.
 use Prim.Native.Nat.{_-_}
-use mathlib.Core.Path.{_≡_, refl, sym, _∙_}
+use mathlib.Core.Path.{_≡_, sym, _∙_}
 use native.Mathlib.Omega.{arith}
 use lib.ListN.{take}
 use Rattle.number.specs.Readers.{found}
 use Rattle.fields.proofs.Judged.{as-value, as-refused}
-use Rattle.fields.proofs.Loops.{loop-stop, loop-stopped, loop-done, loop-stored}
-use Rattle.plan_reader.proofs.Orders.{jobAfter, job-small, Ordering, order-none, order-again}
+use Rattle.fields.proofs.Loops.{loop-stop, loop-done}
+use Rattle.plan_reader.specs.Jobs.{jobAfter}
+use Rattle.plan_reader.proofs.Orders.{job-small, Ordering, order-none, order-again}
 use borrow.Author.Needs.{needs}
 use Rattle.plan_reader.proofs.read_order.Statement.{statement}
 use Rattle.plan_reader.proofs.read_order.Tie as tie
@@ -43,18 +44,14 @@ slice-write-out c = omega (arith, turn (c .before) .before .loop .inv .long, ent
 returns : tie.Need-returns Inv-loop μ-loop
 returns c =
     let known = c .before in
-    let run = last known .before .loop .inv .loop in
-    let stops = as-refused _ _ (sym (known .before .before .read-job .ensures) ∙ known .why .given .1) in
-    (loop-stop run _ (last known .loop-test .taken) stops, λ jobs n e. loop-stopped run _ (last known .loop-test .taken) stops jobs n e)
+    loop-stop (last known .before .loop .inv .loop) (last known .loop-test .taken) _
+    (as-refused _ _ (sym (known .before .before .read-job .ensures) ∙ known .why .given .1))
 
 loop-again : tie.Need-loop-again Inv-loop μ-loop
 loop-again c = let known = c .before in order-again (turn known .before .loop .inv) _ _ (turn known .loop-test .taken) (entry known .pre .1) (job-found known)
-
-returns-2 : tie.Need-returns-2 Inv-loop μ-loop
-returns-2 c = let run = c .before .loop .inv .loop in (loop-done run (c .loop-test .left), loop-stored run (c .loop-test .left) refl)
 
 pub read-order-spec : {M : Type 1} → statement M
 read-order-spec =
     tie.close (tie.spec Inv-loop μ-loop (λ c. order-none) (λ c κs. search needs) (λ c. search needs) cast-out slice-write-out (λ c. search needs)
     (λ c. last (c .before) .before .loop .inv .long) returns (λ c. search needs) (λ c. omega arith) loop-again (λ c. c .before .loop .inv .long)
-    returns-2)
+    (λ c. loop-done (c .before .loop .inv .loop) (c .loop-test .left)))

@@ -46,7 +46,7 @@ returns-4 : tie.Need-returns-4
 returns-4 c =
     let read = c .before .before in
     let jobs = jobs-found read .1 in
-    whole-plan _ _ _ (front-found (front-of read) .1) _ _ jobs _ (read .before .before .before .read-order .ensures .1 _ _ jobs) (c .if1 .left)
+    whole-plan _ _ _ (front-found (front-of read) .1) _ _ jobs _ (read .before .before .before .read-order .ensures .1) (c .if1 .left)
 
 pub read-plan-spec : {M : Type 1} → statement M
 read-plan-spec =

@@ -1,12 +1,11 @@
 -- `queue_reader::read_gaps` meets its contract: `Rows` is the invariant; the rows left fall.
 -- Assumes nothing.
 use Prim.Native.Nat.{_+_, _-_}
-use mathlib.Core.Path.{refl, sym, _∙_}
+use mathlib.Core.Path.{sym, _∙_}
 use native.Mathlib.Omega.{arith}
-use Rattle.fields.proofs.Judged.{as-stopped}
-use Rattle.fields.proofs.Loops.{loop-stop, loop-stopped, loop-done, loop-stored}
+use Rattle.fields.proofs.Loops.{loop-done}
 use Rattle.queue.specs.Reading.{placed}
-use Rattle.queue_reader.proofs.Loops.{Rows, rows-none, rows-more}
+use Rattle.queue_reader.proofs.Loops.{Rows, rows-none, rows-more, rows-stop}
 use borrow.Author.Needs.{needs}
 use Rattle.queue_reader.proofs.read_gaps.Statement.{statement}
 use Rattle.queue_reader.proofs.read_gaps.Tie as tie
@@ -35,19 +34,22 @@ same-length c = let call = at-refused c in call .read-run .kept .1 .1 .1 .1 .1 .
 returns : tie.Need-returns Inv-loop μ-loop
 returns c =
     let call = at-refused c in
-    let loop = at-turn call .before .loop .inv .loop in
-    let stopped = as-stopped _ _ (sym (call .read-run .ensures .0) ∙ c .enum-told .given .1) in
-    (c .enum-told .given .1 ∙ loop-stop loop _ (omega arith) stopped, λ rows n f. loop-stopped loop _ (omega arith) stopped rows n f)
+    let turn = at-turn call in
+    let told = c .enum-told .given .1 in
+    let stopped = sym (call .read-run .ensures .0) ∙ told in
+    let (ends, left) = rows-stop (turn .before .loop .inv) _ (call .before .row-start .ensures) (turn .loop-test .taken) _ stopped in
+    (told ∙ ends, call .read-run .ensures .1 ∙ left)
 
 loop-again : tie.Need-loop-again Inv-loop μ-loop
 loop-again c =
     let call = at-found c in
-    rw (call .read-run .ensures .1)
-    (rows-more (at-turn call .before .loop .inv) _ _ (call .before .row-start .ensures) (at-turn call .loop-test .taken) (sym (call .read-run .ensures .0) ∙ c .before .outcome .given .1))
+    let turn = at-turn call in
+    let found = sym (call .read-run .ensures .0) ∙ c .before .outcome .given .1 in
+    rw (call .read-run .ensures .1) (rows-more (turn .before .loop .inv) _ (call .before .row-start .ensures) (turn .loop-test .taken) _ found)
 
 returns-2 : tie.Need-returns-2 Inv-loop μ-loop
 unfolding placed
-returns-2 c = let loop = c .before .loop .inv .loop in (loop-done loop (omega arith), λ rows n f. loop-stored loop (omega arith) refl rows n f)
+returns-2 c = loop-done (c .before .loop .inv .loop) (omega arith)
 
 pub read-gaps-spec : {M : Type 1} → statement M
 read-gaps-spec =

@@ -4,7 +4,6 @@ use mathlib.Core.Path.{sym, ap, _∙_}
 use Rattle.fields.proofs.Judged.{as-next, as-stopped}
 use Rattle.queue_reader.proofs.Chains.{rowsAt, no-rows}
 use Rattle.queue_reader.specs.Answers.{asHead}
-use Rattle.queue_reader.proofs.Built.{head-is}
 use Rattle.queue_reader.proofs.Rests.{tables-end}
 use borrow.Author.Needs.{needs}
 use Rattle.queue_reader.proofs.read_tables.Statement.{statement}
@@ -36,9 +35,8 @@ returns-2 c =
     let gaps = at-gaps next .read-gaps in
     let args = at-entry (at-gaps next) .args in
     let (rows, e) = as-next (rowsAt (args .front) (args .bytes .now) (args .at)) _ (sym (gaps .ensures .0) ∙ next .next .given .1) in
-    c .as-head .ensures
-    ∙ tables-end (args .front) (args .bytes .now) (args .at) rows _ e _ _ (limits .read-limits .ensures .0)
-    (λ ws windows n l. let p = limits .read-limits .ensures .1 ws windows n l in head-is (args .front) _ _ _ _ rows ws windows (gaps .ensures .1 rows _ e) (p .0) (p .1, p .2))
+    let (ends, (weights, places)) = limits .read-limits .ensures in
+    c .as-head .ensures ∙ tables-end (args .front) (args .bytes .now) (args .at) rows _ e _ _ _ _ _ ends (gaps .ensures .1) weights places
 
 pub read-tables-spec : {M : Type 1} → statement M
 read-tables-spec =

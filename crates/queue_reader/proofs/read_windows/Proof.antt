@@ -1,12 +1,11 @@
 -- `queue_reader::read_windows` meets its contract: `Windows` is the invariant; the kinds left fall.
 -- Assumes nothing.
-use Prim.Native.Nat.{ℕ, _-_}
-use mathlib.Core.Path.{refl, sym, ap, _∙_}
-use mathlib.Core.List.{List}
+use Prim.Native.Nat.{_-_}
+use mathlib.Core.Path.{sym, _∙_}
 use native.Mathlib.Omega.{arith}
-use Rattle.fields.proofs.Loops.{loop-stop, loop-stopped, loop-done, loop-stored}
+use Rattle.fields.proofs.Loops.{loop-stop, loop-done}
 use Rattle.queue_reader.proofs.Parts.{as-window, as-closed}
-use Rattle.queue_reader.proofs.Loops.{Windows, windows-none, windows-more}
+use Rattle.queue_reader.proofs.Loops.{Windows, windows-none, windows-more, each}
 use borrow.Author.Needs.{needs}
 use Rattle.queue_reader.proofs.read_windows.Statement.{statement}
 use Rattle.queue_reader.proofs.read_windows.Tie as tie
@@ -28,9 +27,9 @@ at-refused c = c .before .before .before .before
 returns : tie.Need-returns Inv-loop μ-loop
 returns c =
     let turn = at-refused c in
-    let loop = turn .before .loop .inv .loop in
     let closed = as-closed _ _ (sym (c .before .before .before .read-window .ensures) ∙ c .before .why .given .1) in
-    (loop-stop loop _ (turn .loop-test .taken) closed, λ windows n f. loop-stopped loop _ (turn .loop-test .taken) closed windows n f)
+    let stopped = loop-stop (turn .before .loop .inv .loop) (turn .loop-test .taken) _ closed in
+    (stopped .0, each (stopped .1))
 
 loop-again : tie.Need-loop-again Inv-loop μ-loop
 loop-again c =
@@ -38,13 +37,7 @@ loop-again c =
     windows-more (turn .before .loop .inv) _ _ _ (turn .loop-test .taken) (as-window _ _ _ _ (sym (c .before .before .before .read-window .ensures) ∙ c .before .from .given .1))
 
 returns-2 : tie.Need-returns-2 Inv-loop μ-loop
-returns-2 c =
-    let loop = c .before .loop .inv .loop in (
-      loop-done loop (omega arith),
-      λ windows n f.
-          let e = loop-stored loop (omega arith) refl windows n f in
-          (ap (λ (st : List ℕ × List ℕ). st .0) e, ap (λ (st : List ℕ × List ℕ). st .1) e),
-    )
+returns-2 c = let done = loop-done (c .before .loop .inv .loop) (omega arith) in (done .0, each (done .1))
 
 pub read-windows-spec : {M : Type 1} → statement M
 read-windows-spec =
