@@ -2,7 +2,7 @@
 -- Assumes nothing.
 use Prim.Native.Nat.{ℕ, _≤_, _<_}
 use mathlib.Core.List.{List}
-use mathlib.Core.Path.{_≡_}
+use mathlib.Core.Path.{_≡_, refl, _∙_}
 use native.Mathlib.Omega.{arith}
 use borrow.Author.Tests.{lt-ltb, le-ltb}
 use Rattle.refusal.specs.declared.Reason.{Reason}
@@ -40,3 +40,8 @@ module _ (q : Queue) (n room : ℕ) where
   pub in-room : 77 ≤ room → (needed : ℕ) → needed ≡ entries (problem q) → needed ≤ n → endingOf q n room ≡ solved q (planCost (problem q))
   unfolding endingOf
   in-room h needed e l = rw (le-ltb room 77 h, le-ltb n (entries (problem q)) (omega (arith, e)))
+
+-- an accepted message with room for its table and plan is planned by the recursion
+pub reached : (s : List ℕ) (n room : ℕ) → readQueue s .verdict ≡ Accepted → entries (problem (readQueue s .queue)) ≤ n → 77 ≤ room
+    → ending (readQueue s) n room ≡ solved (readQueue s .queue) (planCost (problem (readQueue s .queue)))
+reached s n room a h k = message-accepted s n room a ∙ in-room (readQueue s .queue) n room k _ refl h

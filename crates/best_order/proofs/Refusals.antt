@@ -14,22 +14,22 @@ use Rattle.refusal.specs.declared.Reason.the-variants.{Buffer, Table, NoOrder}
 use Rattle.refusal.specs.declared.Verdict.{Verdict}
 use Rattle.refusal.specs.declared.Verdict.the-variants.{Accepted, Refused as NotAccepted}
 use Rattle.refusal.specs.declared.Answer.{Answer}
-use Rattle.refusal.specs.declared.Answer.the-variants.{Planned, Refused}
+use Rattle.refusal.specs.declared.Answer.the-variants.{Refused}
 use Rattle.refusal.specs.Reasons.{reasonNumber}
+use Rattle.refusal.specs.Answers.{answerNumber, refusalOf}
+use Rattle.refusal.proofs.Reasons.{reason-range, refusal-of}
 use Rattle.fields.proofs.Codecs.{Bytes}
 use Rattle.queue.specs.declared.Queue.{Queue}
 use Rattle.queue.specs.Reading.{readQueue}
 use Rattle.queue.specs.Refusals.{QueueRefusal}
-use Rattle.queue_laws.proofs.Theorems.{accepted-valid, queue-refusal, queue-refusal-number}
+use Rattle.queue_laws.proofs.Theorems.{accepted-valid, queue-refusal, queue-of-message}
 use Rattle.sequencing.specs.Orders.{IsOrder, Permitted}
 use Rattle.sequencing.specs.Recursion.{planCost}
 use Rattle.sequencing.specs.Entries.{entries}
 use Rattle.problem.specs.OfQueue.{problem}
 use Rattle.problem.proofs.Queues.{none-permitted}
 use Rattle.best_order.specs.Endings.{Ending, refused, unplannable, planned, ending, answerOf}
-use Rattle.best_order.proofs.Answers.{reason-range}
-use Rattle.best_order.proofs.Endings.{message-refused, message-accepted, short-buffer, short-table}
-use Rattle.best_order.proofs.Best.{reached}
+use Rattle.best_order.proofs.Endings.{message-refused, message-accepted, short-buffer, short-table, reached}
 
 module _ (s : List ℕ) (n room : ℕ) where
   abbrev q : Queue
@@ -39,7 +39,7 @@ module _ (s : List ℕ) (n room : ℕ) where
   answer = answerOf (ending (readQueue s) n room)
 
   -- the five ways that planning goes
-  data Way : Type 0 where
+  pub data Way : Type 0 where
     by-message : (r : Reason) → readQueue s .verdict ≡ NotAccepted r → ending (readQueue s) n room ≡ refused r → Way
     by-buffer : readQueue s .verdict ≡ Accepted → room < 77 → ending (readQueue s) n room ≡ refused Buffer → Way
     by-table : readQueue s .verdict ≡ Accepted → 77 ≤ room → n < entries (problem q) → ending (readQueue s) n room ≡ refused (Table (entries (problem q))) → Way
@@ -52,7 +52,7 @@ module _ (s : List ℕ) (n room : ℕ) where
   table-short : readQueue s .verdict ≡ Accepted → 77 ≤ room → n < entries (problem q) → ending (readQueue s) n room ≡ refused (Table (entries (problem q)))
   table-short h l m = message-accepted s n room h ∙ short-table q n room l _ refl m
 
-  way : Way
+  pub way : Way
   way = by-verdict (readQueue s .verdict) refl
     where
       by-cost : readQueue s .verdict ≡ Accepted → 77 ≤ room → entries (problem q) ≤ n → (r : Option ℕ) → planCost (problem q) ≡ r → Way
@@ -71,14 +71,9 @@ module _ (s : List ℕ) (n room : ℕ) where
       by-verdict Accepted e = by-room e (ltb room 77) refl
       by-verdict (NotAccepted r) e = by-message r e (message-refused s n room r e)
 
-  -- a refusal's number, and 0 for a plan
-  abbrev mark : Answer → ℕ
-  mark (Planned m) = 0
-  mark (Refused r) = reasonNumber r
-
   -- what an answer tells of the way it came by
-  told : (e : Ending) (r : Reason) → ending (readQueue s) n room ≡ e → answer ≡ Refused r → mark (answerOf e) ≡ reasonNumber r
-  told e r h a = ap mark (ap answerOf (sym h) ∙ a)
+  told : (e : Ending) (r : Reason) → ending (readQueue s) n room ≡ e → answer ≡ Refused r → refusalOf (answerNumber (answerOf e)) ≡ reasonNumber r
+  told e r h a = ap (λ (x : Answer). refusalOf (answerNumber x)) (ap answerOf (sym h) ∙ a) ∙ refusal-of r
 
   -- 1 to 14: the message's own refusal, and no other message is refused so
   pub message-exactly : (r : Reason) → QueueRefusal r → (answer ≡ Refused r) ↔ (readQueue s .verdict ≡ NotAccepted r)
@@ -89,9 +84,9 @@ module _ (s : List ℕ) (n room : ℕ) where
         where
           same : Refused r′ ≡ Refused r → r′ ≡ r
           same x = cc
-      go a (by-buffer h l e) = absurd (omega (arith, told _ r e a, queue-refusal-number r own))
-      go a (by-table h l m e) = absurd (omega (arith, told _ r e a, queue-refusal-number r own))
-      go a (by-order h l m c e) = absurd (omega (arith, told _ r e a, queue-refusal-number r own))
+      go a (by-buffer h l e) = absurd (omega (arith, told _ r e a, queue-of-message r own))
+      go a (by-table h l m e) = absurd (omega (arith, told _ r e a, queue-of-message r own))
+      go a (by-order h l m c e) = absurd (omega (arith, told _ r e a, queue-of-message r own))
       go a (to-plan c e) = absurd (omega (arith, told _ r e a, reason-range r))
 
   -- 15
@@ -99,7 +94,7 @@ module _ (s : List ℕ) (n room : ℕ) where
   buffer-exactly = ((λ a. go a way), (λ h. ap answerOf (buffer-short (h .0) (h .1))))
     where
       go : answer ≡ Refused Buffer → Way → (readQueue s .verdict ≡ Accepted) × (room < 77)
-      go a (by-message r h e) = absurd (omega (arith, told _ Buffer e a, queue-refusal-number r (queue-refusal s r h)))
+      go a (by-message r h e) = absurd (omega (arith, told _ Buffer e a, refusal-of r, queue-of-message r (queue-refusal s r h)))
       go a (by-buffer h l e) = (h, l)
       go a (by-table h l m e) = absurd (omega (arith, told _ Buffer e a))
       go a (by-order h l m c e) = absurd (omega (arith, told _ Buffer e a))
@@ -111,7 +106,7 @@ module _ (s : List ℕ) (n room : ℕ) where
   table-exactly needed = ((λ a. go a way), (λ h. rw (h .3) (ap answerOf (table-short (h .0) (h .1) (h .2)))))
     where
       go : answer ≡ Refused (Table needed) → Way → (readQueue s .verdict ≡ Accepted) × (77 ≤ room) × (n < entries (problem q)) × (needed ≡ entries (problem q))
-      go a (by-message r h e) = absurd (omega (arith, told _ (Table needed) e a, queue-refusal-number r (queue-refusal s r h)))
+      go a (by-message r h e) = absurd (omega (arith, told _ (Table needed) e a, refusal-of r, queue-of-message r (queue-refusal s r h)))
       go a (by-buffer h l e) = absurd (omega (arith, told _ (Table needed) e a))
       go a (by-table h l m e) = (h, l, m, same (sym a ∙ ap answerOf e))
         where
@@ -129,7 +124,7 @@ module _ (s : List ℕ) (n room : ℕ) where
   )
     where
       go : answer ≡ Refused NoOrder → Way → (readQueue s .verdict ≡ Accepted) × (77 ≤ room) × (entries (problem q) ≤ n) × ((o : List ℕ) → IsOrder (problem q) o → Permitted (problem q) o → ⊥)
-      go a (by-message r h e) = absurd (omega (arith, told _ NoOrder e a, queue-refusal-number r (queue-refusal s r h)))
+      go a (by-message r h e) = absurd (omega (arith, told _ NoOrder e a, refusal-of r, queue-of-message r (queue-refusal s r h)))
       go a (by-buffer h l e) = absurd (omega (arith, told _ NoOrder e a))
       go a (by-table h l m e) = absurd (omega (arith, told _ NoOrder e a))
       go a (by-order h l m c e) = (h, l, m, none-permitted q (accepted-valid s y h) .0 c)
