@@ -93,7 +93,7 @@ best-order : (s table buffer table′ buffer′ : List ℕ) → Bytes s
     → BestOrder s table buffer table′ buffer′ (answerNumber (answerOf (endingOn s table buffer)))
 best-order s table buffer table′ buffer′ y filled holds a h k =
     let q : Queue = readQueue s .queue in
-    let e = reached s (length table) (length buffer) a h k in
+    let e = reached s (length table) (length buffer) a k h in
     rw e (best q (accepted-valid s y a) table buffer table′ buffer′ (planCost (problem q)) refl k (rw e at filled) (rw e at holds))
 
 -- the planning contract

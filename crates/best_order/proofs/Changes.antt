@@ -15,7 +15,7 @@ use Rattle.queue_laws.proofs.Theorems.{queue-refusal, queue-of-message}
 use Rattle.best_order.specs.Endings.{Ending, refused, answerOf, bufferOf, tableOf, LeavesTable}
 use Rattle.best_order.specs.Changes.{Changes}
 use Rattle.best_order.specs.Planning.{endingOn}
-use Rattle.best_order.proofs.Refusals.{Way, by-message, by-buffer, by-table, by-order, to-plan, way}
+use Rattle.best_order.proofs.Endings.{Way, by-message, by-buffer, by-table, by-order, to-plan, way}
 
 module _ (s table buffer table′ buffer′ : List ℕ) where
   -- an ending that leaves this table and this buffer changes only what 01 says
@@ -37,4 +37,4 @@ module _ (s table buffer table′ buffer′ : List ℕ) where
       go (by-buffer h l e) = rw e (other-than-17 Buffer (omega arith))
       go (by-table h l m e) = rw e (other-than-17 (Table _) (omega arith))
       go (by-order h l m c e) = rw e (λ filled same. record { unchanged = λ _ other. absurd (other refl); filled = λ _. (filled, same) })
-      go (to-plan c e) = rw e (λ filled written. record { unchanged = λ refusal _. absurd (omega arith); filled = λ a. absurd (omega arith) })
+      go (to-plan h c m e) = rw e (λ filled written. record { unchanged = λ refusal _. absurd (omega arith); filled = λ a. absurd (omega arith) })
