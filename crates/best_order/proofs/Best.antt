@@ -27,11 +27,12 @@ use Rattle.sequencing.proofs.Entries.{number-in, entry-is}
 use Rattle.sequencing.proofs.Options.{none-some}
 use Rattle.problem.specs.OfQueue.{problem}
 use Rattle.problem.proofs.Queues.{none-permitted}
-use Rattle.best_order.specs.Endings.{solved, ending, bestPlan, answerOf, bufferOf, tableOf, LeavesTable}
+use Rattle.best_order.specs.Endings.{solved, bestPlan, answerOf, bufferOf, tableOf, LeavesTable}
 use Rattle.best_order.specs.BestOrder.{Best, BestOrder}
 use Rattle.best_order.specs.Planning.{endingOn, Planning}
-use Rattle.best_order.proofs.Endings.{message-accepted, in-room}
+use Rattle.best_order.proofs.Endings.{reached}
 use Rattle.best_order.proofs.Plans.{valid-plan, read-again, best-plan}
+use Rattle.best_order.proofs.Changes.{changes}
 
 -- ---- the table
 
@@ -86,18 +87,13 @@ module _ (q : Queue) (v : Valid q) (table buffer table′ buffer′ : List ℕ) 
         past = past P table table′ filled;
       }
 
--- an accepted message with room for its table and plan is planned by the recursion
-pub reached : (s : List ℕ) (n room : ℕ) → readQueue s .verdict ≡ Accepted → entries (problem (readQueue s .queue)) ≤ n → 77 ≤ room
-    → ending (readQueue s) n room ≡ solved (readQueue s .queue) (planCost (problem (readQueue s .queue)))
-reached s n room a h k = message-accepted s n room a ∙ in-room (readQueue s .queue) n room k _ refl h
-
 -- demand 3
 best-order : (s table buffer table′ buffer′ : List ℕ) → Bytes s
     → LeavesTable (tableOf (endingOn s table buffer)) table table′ → buffer′ ≡ bufferOf (endingOn s table buffer) buffer
     → BestOrder s table buffer table′ buffer′ (answerNumber (answerOf (endingOn s table buffer)))
 best-order s table buffer table′ buffer′ y filled holds a h k =
     let q : Queue = readQueue s .queue in
-    let e = reached s (length table) (length buffer) a h k in
+    let e = reached s (length table) (length buffer) a k h in
     rw e (best q (accepted-valid s y a) table buffer table′ buffer′ (planCost (problem q)) refl k (rw e at filled) (rw e at holds))
 
 -- the planning contract
@@ -108,15 +104,11 @@ planning {s} {table} {buffer} {table′} {buffer′} y e filled holds = record {
   answer-is = e;
   leaves-table = filled;
   leaves-buffer = holds;
+  changes = rw e (changes s table buffer table′ buffer′ filled holds);
   best-order = rw e (best-order s table buffer table′ buffer′ y filled holds);
 }
 
 -- the same of the answer as the contract names it
 pub planning-named : {s table buffer table′ buffer′ : List ℕ} {answer : Answer} → Planning s table buffer table′ buffer′ answer
     → Planning s table buffer table′ buffer′ (answerOf (endingOn s table buffer))
-planning-named w = record {
-  answer-is = refl;
-  leaves-table = w .leaves-table;
-  leaves-buffer = w .leaves-buffer;
-  best-order = rw (w .answer-is) at (w .best-order);
-}
+planning-named w = rw (w .answer-is) at w

@@ -1,6 +1,7 @@
 pub mod Orders
 pub mod Plans
 pub mod Endings
-pub mod Best
 pub mod Answers
 pub mod Refusals
+pub mod Changes
+pub mod Best

@@ -1,3 +1,4 @@
 pub mod Endings
 pub mod BestOrder
+pub mod Changes
 pub mod Planning

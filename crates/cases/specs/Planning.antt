@@ -1,11 +1,8 @@
--- 01's small queues A to H as calls of planning on bytes: the answer, and the bytes of the plan.
-use Prim.Native.Nat.{ℕ, _*_}
+-- 01's small queues A to H as calls of planning on bytes: the answer, and the bytes of the plan, or what a refusal leaves.
+use Prim.Native.Nat.{ℕ, _+_, _-_, _*_, _^_}
 use mathlib.Core.List.{List, [], _∷_, _++_, flatMap}
 use mathlib.Core.Path.{_≡_, refl}
-use lib.ListN.{take, drop, replicate}
-use Rattle.refusal.specs.declared.Reason.the-variants.{Buffer, Table, NoOrder}
-use Rattle.refusal.specs.declared.Answer.{Answer}
-use Rattle.refusal.specs.declared.Answer.the-variants.{Refused}
+use lib.ListN.{length, take, drop, replicate}
 use Rattle.refusal.specs.Answers.{answerNumber}
 use Rattle.number.specs.Readers.{times}
 use Rattle.number.specs.Numbers.{groupsAt, groups, encode}
@@ -17,10 +14,11 @@ use Rattle.sequencing.specs.Lists.{from, sum, weigh, filter}
 use Rattle.sequencing.specs.States.{jobsOf, allLeft, byHandIn}
 use Rattle.sequencing.specs.Least.{least, argLeast}
 use Rattle.sequencing.specs.Recursion.{W, toGo, value, choice, walk, planCost, planKinds, planOrder}
-use Rattle.sequencing.specs.Entries.{size, digits, entryKind, entryLeft}
+use Rattle.sequencing.specs.Entries.{size, digits, entryKind, entryLeft, filledEntry}
 use Rattle.sequencing.specs.Counts.{feasibleStates}
 use Rattle.problem.specs.PlaceRule.{allowed}
-use Rattle.best_order.specs.Endings.{endingOf, ending, bestPlan, answerOf, bufferOf}
+use Rattle.problem.specs.OfQueue.{problem}
+use Rattle.best_order.specs.Endings.{Ending, endingOf, ending, bestPlan, answerOf, bufferOf, TableEnding, untouched, filledFor, tableOf}
 
 -- A, but for its goal, shift, a_1 and a_2
 abbrev likeA : (goal shift a₁ a₂ : ℕ) → List ℕ
@@ -39,34 +37,49 @@ G = take 19 A ++ (0x00 ∷ [])
 abbrev H : List ℕ
 H = take 7 A ++ replicate 6 0 ++ drop 13 (take 19 A) ++ (0x02 ∷ 0x02 ∷ 0x01 ∷ [])
 
--- the answer to a message, with a table of n entries and a buffer of so many bytes
-abbrev answered : List ℕ → (entries room : ℕ) → Answer
-answered message n room = answerOf (ending (readQueue message) n room)
-
 -- R + 256 × V, and the first bytes of a buffer of 77 zeros then
 abbrev planned : List ℕ → (entries bytes : ℕ) → ℕ × List ℕ
-planned message n bytes = (answerNumber (answered message n 77), take bytes (bufferOf (ending (readQueue message) n 77) (replicate 77 0)))
+planned message n bytes =
+    let e : Ending = ending (readQueue message) n 77 in
+    (answerNumber (answerOf e), take bytes (bufferOf e (replicate 77 0)))
+
+-- a table's entries then
+abbrev tableThen : TableEnding → List ℕ → List ℕ
+tableThen untouched table = table
+tableThen (filledFor q) table = tabulate (filledEntry (problem q) table) 0 (length table)
+
+-- R + 256 × V, and a table of n sevens and a buffer of so many nines then
+abbrev left : List ℕ → (entries room : ℕ) → ℕ × List ℕ × List ℕ
+left message n room =
+    let e : Ending = ending (readQueue message) n room in
+    (answerNumber (answerOf e), tableThen (tableOf e) (replicate n 7), bufferOf e (replicate room 9))
+
+-- what an entry holds where no state is kept
+abbrev none : ℕ
+none = 2 ^ 64 - 1
 
 -- what 01 says of each
 pub record Planning : Type 0 where
-  -- A: cost 70, kept 7, order 2 1 3; 12 entries are needed, and 77 bytes
+  -- A: cost 70, kept 7, order 2 1 3; 12 entries are needed, and 77 bytes; one byte short it is no message
   pub A-plan : planned A 12 10 ≡ (256 * 10, 0x51 ∷ 0x50 ∷ 0x01 ∷ 0x01 ∷ 0x46 ∷ 0x07 ∷ 0x03 ∷ 0x02 ∷ 0x01 ∷ 0x03 ∷ [])
-  pub A-eleven : answered A 11 77 ≡ Refused (Table 12)
-  pub A-short : answered A 11 76 ≡ Refused Buffer
+  pub A-eleven : left A 11 77 ≡ (16 + 256 * 12, replicate 11 7, replicate 77 9)
+  pub A-short : left A 11 76 ≡ (15, replicate 11 7, replicate 76 9)
+  pub A-cut : left (take 22 A) 13 76 ≡ (2, replicate 13 7, replicate 76 9)
   -- B: cost 200, order 1 3 2
   pub B-plan : planned (likeA 2 1 1 1) 12 11 ≡ (256 * 11, 0x51 ∷ 0x50 ∷ 0x01 ∷ 0x02 ∷ 0xC8 ∷ 0x01 ∷ 0x07 ∷ 0x03 ∷ 0x01 ∷ 0x03 ∷ 0x02 ∷ [])
   -- C: cost 80, order 1 3 2
   pub C-plan : planned (likeA 1 1 1 3) 12 10 ≡ (256 * 10, 0x51 ∷ 0x50 ∷ 0x01 ∷ 0x01 ∷ 0x50 ∷ 0x05 ∷ 0x03 ∷ 0x01 ∷ 0x03 ∷ 0x02 ∷ [])
   -- D: order 2 1 3
   pub D-plan : planned (likeA 1 1 2 1) 12 10 ≡ (256 * 10, 0x51 ∷ 0x50 ∷ 0x01 ∷ 0x01 ∷ 0x46 ∷ 0x06 ∷ 0x03 ∷ 0x02 ∷ 0x01 ∷ 0x03 ∷ [])
-  -- E: 17
-  pub E-none : answered (likeA 1 1 3 1) 12 77 ≡ Refused NoOrder
+  -- E: 17, and the table is filled up to N × P
+  pub E-none : left (likeA 1 1 3 1) 13 77
+      ≡ (17, 0 ∷ none ∷ none ∷ none ∷ none ∷ none ∷ 0 ∷ 40 ∷ none ∷ none ∷ none ∷ none ∷ 7 ∷ [], replicate 77 9)
   -- F: cost 100, kept 3, order 1 2 3; with a_2 = 3 too, 17
   pub F-plan : planned (likeA 1 0 1 1) 12 10 ≡ (256 * 10, 0x51 ∷ 0x50 ∷ 0x01 ∷ 0x01 ∷ 0x64 ∷ 0x03 ∷ 0x03 ∷ 0x01 ∷ 0x02 ∷ 0x03 ∷ [])
-  pub F-none : answered (likeA 1 0 1 3) 12 77 ≡ Refused NoOrder
+  pub F-none : left (likeA 1 0 1 3) 13 77 ≡ (17, 0 ∷ replicate 11 none ++ (7 ∷ []), replicate 77 9)
   -- G: cost 0, kept 0, N entries
   pub G-plan : planned G 2 7 ≡ (256 * 7, 0x51 ∷ 0x50 ∷ 0x01 ∷ 0x01 ∷ 0x00 ∷ 0x00 ∷ 0x00 ∷ [])
-  pub G-one : answered G 1 77 ≡ Refused (Table 2)
+  pub G-one : left G 1 77 ≡ (16 + 256 * 2, 7 ∷ [], replicate 77 9)
   -- H: order 2 1
   pub H-plan : planned H 8 9 ≡ (256 * 9, 0x51 ∷ 0x50 ∷ 0x01 ∷ 0x01 ∷ 0x00 ∷ 0x04 ∷ 0x02 ∷ 0x02 ∷ 0x01 ∷ [])
 
@@ -76,6 +89,7 @@ planning = record {
   A-plan = refl;
   A-eleven = refl;
   A-short = refl;
+  A-cut = refl;
   B-plan = refl;
   C-plan = refl;
   D-plan = refl;

@@ -7,20 +7,19 @@ use native.Mathlib.Omega.{arith}
 use Rattle.refusal.specs.declared.Reason.{Reason}
 use Rattle.refusal.specs.declared.Verdict.{Verdict}
 use Rattle.refusal.specs.declared.Verdict.the-variants.{Accepted, Refused}
-use Rattle.refusal.specs.Reasons.{needed}
 use Rattle.refusal.specs.Answers.{verdictNumber}
+use Rattle.refusal.proofs.Reasons.{OfMessage, reason-range, of-message-needed}
 use Rattle.queue.specs.Reading.{readQueue}
-use Rattle.queue_laws.proofs.Theorems.{queue-refusal, queue-refusal-needed}
+use Rattle.queue_laws.proofs.Theorems.{queue-refusal, queue-of-message}
 use Rattle.plan.specs.Reading.{readPlan}
-use Rattle.plan_laws.proofs.Refusals.{plan-refusal, plan-refusal-needed}
-use Rattle.best_order.proofs.Answers.{reason-range}
+use Rattle.plan_laws.proofs.Refusals.{plan-refusal, plan-of-message}
 
-verdict-fits : (v : Verdict) → ((r : Reason) → v ≡ Refused r → needed r ≡ 0) → verdictNumber v < 2 ^ 64
+verdict-fits : (v : Verdict) → ((r : Reason) → v ≡ Refused r → OfMessage r) → verdictNumber v < 2 ^ 64
 verdict-fits Accepted h = omega arith
-verdict-fits (Refused r) h = omega (arith, h r refl, reason-range r)
+verdict-fits (Refused r) h = omega (arith, of-message-needed r (h r refl), reason-range r)
 
 pub queue-number : (s : List ℕ) → verdictNumber (readQueue s .verdict) < 2 ^ 64
-queue-number s = verdict-fits (readQueue s .verdict) (λ r e. queue-refusal-needed r (queue-refusal s r e))
+queue-number s = verdict-fits (readQueue s .verdict) (λ r e. queue-of-message r (queue-refusal s r e))
 
 pub plan-number : (s : List ℕ) → verdictNumber (readPlan s .verdict) < 2 ^ 64
-plan-number s = verdict-fits (readPlan s .verdict) (λ r e. plan-refusal-needed r (plan-refusal s r e))
+plan-number s = verdict-fits (readPlan s .verdict) (λ r e. plan-of-message r (plan-refusal s r e))

@@ -1,12 +1,12 @@
 -- The plan reader gives no refusals but its own.
 -- Assumes nothing.
 use Prim.Native.Nat.{ℕ}
-use mathlib.Core.Path.{_≡_, refl}
+use mathlib.Core.Path.{_≡_}
 use mathlib.Core.List.{List}
 use native.Mathlib.Omega.{arith}
 use Rattle.refusal.specs.declared.Reason.{Reason}
 use Rattle.refusal.specs.declared.Verdict.the-variants.{Refused}
-use Rattle.refusal.specs.Reasons.{needed}
+use Rattle.refusal.proofs.Reasons.{OfMessage}
 use Rattle.number.specs.Readers.{Found, found, refused}
 use Rattle.plan.specs.declared.Plan.{Plan}
 use Rattle.plan.specs.Reading.{plan, asReading, readPlan}
@@ -25,13 +25,13 @@ plan-refusal s r e =
     arises-in PlanRefusal on-ends on-groups planRefusals (on-opening, (on-left-over, (on-edition, (on-goal, (on-jobs, (on-job, tt)))))) r
     (plan-message .gives s r (refused-as (plan s 0) r e))
 
--- .. which carry nothing
-pub plan-refusal-needed : (r : Reason) → PlanRefusal r → needed r ≡ 0
-plan-refusal-needed r on-opening = refl
-plan-refusal-needed r on-ends = refl
-plan-refusal-needed r on-groups = refl
-plan-refusal-needed r on-edition = refl
-plan-refusal-needed r on-goal = refl
-plan-refusal-needed r on-jobs = refl
-plan-refusal-needed r on-job = refl
-plan-refusal-needed r on-left-over = refl
+-- .. and none of them is planning's own
+pub plan-of-message : (r : Reason) → PlanRefusal r → OfMessage r
+plan-of-message r on-opening = omega arith
+plan-of-message r on-ends = omega arith
+plan-of-message r on-groups = omega arith
+plan-of-message r on-edition = omega arith
+plan-of-message r on-goal = omega arith
+plan-of-message r on-jobs = omega arith
+plan-of-message r on-job = omega arith
+plan-of-message r on-left-over = omega arith

@@ -8,7 +8,7 @@ use native.Mathlib.Omega.{arith}
 use lib.ListN.{length, take}
 use Rattle.refusal.specs.declared.Reason.{Reason}
 use Rattle.refusal.specs.declared.Verdict.the-variants.{Accepted, Refused}
-use Rattle.refusal.specs.Reasons.{reasonNumber, needed}
+use Rattle.refusal.proofs.Reasons.{OfMessage}
 use Rattle.number.specs.Readers.{Found, found, refused}
 use Rattle.fields.proofs.Codecs.{Bytes}
 use Rattle.queue.specs.declared.Queue.{Queue}
@@ -84,39 +84,22 @@ queue-refusal s r e =
     (on-opening, (on-left-over, (on-edition, (on-kinds, (on-goal, (on-shift, (on-start, (on-gap, (on-pupils, (on-places, (on-jobs, (on-job-kind, tt)))))))))))) r
     (queue-message .gives s r (refused-as (queue s 0) r e))
 
--- .. which carry nothing
-pub queue-refusal-needed : (r : Reason) → QueueRefusal r → needed r ≡ 0
-queue-refusal-needed r on-opening = refl
-queue-refusal-needed r on-ends = refl
-queue-refusal-needed r on-groups = refl
-queue-refusal-needed r on-edition = refl
-queue-refusal-needed r on-kinds = refl
-queue-refusal-needed r on-goal = refl
-queue-refusal-needed r on-shift = refl
-queue-refusal-needed r on-start = refl
-queue-refusal-needed r on-gap = refl
-queue-refusal-needed r on-pupils = refl
-queue-refusal-needed r on-places = refl
-queue-refusal-needed r on-jobs = refl
-queue-refusal-needed r on-job-kind = refl
-queue-refusal-needed r on-left-over = refl
-
--- .. and whose numbers say so
-pub queue-refusal-number : (r : Reason) → QueueRefusal r → reasonNumber r ≤ 14
-queue-refusal-number r on-opening = omega arith
-queue-refusal-number r on-ends = omega arith
-queue-refusal-number r on-groups = omega arith
-queue-refusal-number r on-edition = omega arith
-queue-refusal-number r on-kinds = omega arith
-queue-refusal-number r on-goal = omega arith
-queue-refusal-number r on-shift = omega arith
-queue-refusal-number r on-start = omega arith
-queue-refusal-number r on-gap = omega arith
-queue-refusal-number r on-pupils = omega arith
-queue-refusal-number r on-places = omega arith
-queue-refusal-number r on-jobs = omega arith
-queue-refusal-number r on-job-kind = omega arith
-queue-refusal-number r on-left-over = omega arith
+-- .. and none of them is planning's own
+pub queue-of-message : (r : Reason) → QueueRefusal r → OfMessage r
+queue-of-message r on-opening = omega arith
+queue-of-message r on-ends = omega arith
+queue-of-message r on-groups = omega arith
+queue-of-message r on-edition = omega arith
+queue-of-message r on-kinds = omega arith
+queue-of-message r on-goal = omega arith
+queue-of-message r on-shift = omega arith
+queue-of-message r on-start = omega arith
+queue-of-message r on-gap = omega arith
+queue-of-message r on-pupils = omega arith
+queue-of-message r on-places = omega arith
+queue-of-message r on-jobs = omega arith
+queue-of-message r on-job-kind = omega arith
+queue-of-message r on-left-over = omega arith
 
 -- a record that fits a message: the writer refuses it with the refusal that the reader would give its message
 pub refused-alike : (q : Queue) (r : Reason) → Fits q → judge q ≡ Refused r → readQueue (message q) .verdict ≡ Refused r

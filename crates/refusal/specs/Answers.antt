@@ -1,5 +1,5 @@
 -- R + 256 × V of each answer: R is 0 or the refusal, V the bytes of a written message, the needed entries for 16, else 0.
-use Prim.Native.Nat.{ℕ, _+_, _*_}
+use Prim.Native.Nat.{ℕ, _+_, _*_, _/_, _%_}
 use Rattle.refusal.specs.declared.Reason.{Reason}
 use Rattle.refusal.specs.declared.Verdict.{Verdict}
 use Rattle.refusal.specs.declared.Verdict.the-variants.{Accepted, Refused}
@@ -27,3 +27,11 @@ writtenNumber (NotWritten r) = refusalNumber r
 abbrev pub answerNumber : Answer → ℕ
 answerNumber (Planned n) = 256 * n
 answerNumber (NotPlanned r) = refusalNumber r
+
+-- R of an answer's number
+abbrev pub refusalOf : ℕ → ℕ
+refusalOf a = a % 256
+
+-- V of an answer's number
+abbrev pub valueOf : ℕ → ℕ
+valueOf a = a / 256
