@@ -1,12 +1,16 @@
 #!/usr/bin/env python3
-"""Queue messages from a readable text, and queue and plan messages back into text.
+"""Queue messages from a readable text, messages back into text, and what the part answers: its plan and a picture.
 
-usage: queue_text.py pack [TEXT [MESSAGE]]      a text into a queue message
+usage: queue_text.py plan [QUEUE [SVG]]         a queue planned by the part: place, job, kind and finish, then the
+                                                picture; with a second file the picture as SVG too
+       queue_text.py draw [QUEUE [SVG]]         the picture alone, as SVG
+       queue_text.py pack [QUEUE [MESSAGE]]     a queue's message
        queue_text.py show [MESSAGE [TEXT]]      a queue or plan message into text
        queue_text.py --self-test
 
-Files default to standard input and output. A text has one line for each of these, in any order; `#` starts a
-comment:
+A QUEUE is a message or a text. Files default to standard input and output. `--entries N` behind plan or draw lends the
+part a table of at most N entries, where it is otherwise as long as the part asks. A text has one line for each of
+these, in any order; `#` starts a comment:
 
     goal 1            # 1 last finish, 2 total waiting
     shift 1
@@ -19,11 +23,28 @@ comment:
     jobs 1 2 1        # the kind of each job, by hand-in
 
 N is the number of pupils; left out, goal is 1, shift 60, start 0 and every place allowed. Numbers are written as they
-stand: whether a message is accepted is for the part to say (kippertarn_check_queue). This tool is a convenience and is
-not proved.
+stand: whether a message is accepted is for the part to say (kippertarn_check_queue), and plan and draw say which line it
+refused. They need the part, as `make run` builds it. The exit status is 0, 1 where nothing was planned or written, or 2
+for words like none of the above. This tool is a convenience and is not proved.
 """
+import collections
+import os
+import pathlib
+import re
+import shutil
+import signal
+import subprocess
 import sys
 
+import picture
+
+
+ROOT = pathlib.Path(__file__).resolve().parent.parent
+PART = ROOT / "target" / "c" / "answer"     # tools/answer.c, linked with the part
+MOST = 1 << 16                              # bytes that are read: far more than any queue has
+
+Queue = collections.namedtuple("Queue", "goal shift start gaps pupils places jobs")
+Plan = collections.namedtuple("Plan", "goal cost kept order")
 
 NAMES = ("goal", "shift", "start", "gaps", "pupils", "places", "jobs")
 
@@ -68,73 +89,155 @@ class Numbers:
             raise Unreadable("%d bytes left over (refusal 14)" % (len(self.message) - self.at))
 
 
-def pack(text):
-    """The message of a text."""
-    said, rows = {}, []
+def read_text(text):
+    """What a text says: the line and the numbers of each name, those of each row of gaps, and the line behind its end."""
+    said, rows, number = {}, [], 0
     for number, line in enumerate(text.splitlines(), 1):
         words = line.split("#")[0].split()
         if not words:
             continue
         name, rest = words[0], words[1:]
-        if name not in NAMES or (name in said and name != "gaps"):
-            raise Unreadable("line %d: %s is not expected here" % (number, name))
+        if name not in NAMES:
+            raise Unreadable("line %d: one of %s is expected, not %.30s" % (number, ", ".join(NAMES), name))
+        if name in said and name != "gaps":
+            raise Unreadable("line %d: %s has line %d already" % (number, name, said[name][0]))
         try:
             values = [int(word) for part in rest for word in (part.split("-") if name == "places" else [part])]
         except ValueError:
-            raise Unreadable("line %d: a number is expected after %s" % (number, name))
-        if any(value < 0 for value in values) or (name in ("goal", "shift", "start") and len(values) != 1):
-            raise Unreadable("line %d: one number that is not negative is expected" % number)
+            raise Unreadable("line %d: numbers are expected after %s, not %.30s" % (number, name, " ".join(rest)))
+        if any(value < 0 for value in values):
+            raise Unreadable("line %d: a number after %s is negative" % (number, name))
+        if name in ("goal", "shift", "start") and len(values) != 1:
+            raise Unreadable("line %d: one number is expected after %s" % (number, name))
+        said[name] = number, values
         if name == "gaps":
-            rows.append(values)
-        said[name] = values
-    kinds = len(said.get("pupils", []))
-    places = said.get("places", [1, 60] * kinds)
-    if len(rows) != kinds + 1 or any(len(row) != kinds for row in rows):
-        raise Unreadable("%d kinds have pupils: %d rows of gaps, each of %d, are expected" % (kinds, kinds + 1, kinds))
-    if len(places) != 2 * kinds:
-        raise Unreadable("first and last place are expected for each of %d kinds" % kinds)
-    jobs = said.get("jobs", [])
-    head = [1, kinds] + said.get("goal", [1]) + said.get("shift", [60]) + said.get("start", [0])
-    numbers = head + sum(rows, []) + said.get("pupils", []) + places + [len(jobs)] + jobs
-    return b"QS" + b"".join(map(write_number, numbers))
+            rows.append(said[name])
+    return said, rows, number + 1
+
+
+def pack(text):
+    """The message of a text, and the line of each of its numbers (0 where none says it)."""
+    said, rows, end = read_text(text)
+    if "pupils" not in said and [values for _, values in rows] != [[]]:     # which has no kinds, for the part to refuse
+        raise Unreadable("line %d: a line of pupils is expected before the text ends" % end)
+    pupils = said.get("pupils", (0, []))
+    kinds = len(pupils[1])
+    for line, values in rows:
+        if len(values) != kinds:
+            raise Unreadable("line %d: %d gaps are expected, one for each kind that has pupils" % (line, kinds))
+    if len(rows) != kinds + 1:
+        at = rows[kinds + 1][0] if len(rows) > kinds else end
+        raise Unreadable("line %d: %d rows of gaps are expected, cold and behind each kind; %d are there"
+                         % (at, kinds + 1, len(rows)))
+    places = said.get("places", (0, [1, 60] * kinds))
+    if len(places[1]) != 2 * kinds:
+        raise Unreadable("line %d: first and last place of %d kinds are expected, as 1-60" % (places[0], kinds))
+    at_jobs, jobs = said.get("jobs", (0, []))
+    parts = [(pupils[0], [1, kinds])]
+    parts += [said.get("goal", (0, [1])), said.get("shift", (0, [60])), said.get("start", (0, [0]))]
+    parts += rows + [pupils, places, (at_jobs, [len(jobs)] + jobs)]
+    message = b"QS" + b"".join(write_number(value) for _, values in parts for value in values)
+    return message, [line for line, values in parts for _ in values]
 
 
 def joined(values):
     return " ".join(map(str, values))
 
 
-def show_queue(message):
+def read_queue(message):
+    """The record of a queue message."""
     numbers = Numbers(message)
     edition, kinds, goal, shift, start = numbers.run(5)
     if edition != 1 or not 1 <= kinds <= 5:
         raise Unreadable("edition %d, N %d (refusal 4 or 5)" % (edition, kinds))
-    lines = ["goal %d" % goal, "shift %d" % shift, "start %d" % start]
-    lines += ["gaps " + joined(numbers.run(kinds)) for _ in range(kinds + 1)]
-    lines += ["pupils " + joined(numbers.run(kinds))]
-    lines += ["places " + joined("%d-%d" % tuple(numbers.run(2)) for _ in range(kinds))]
-    lines += [("jobs " + joined(numbers.run(numbers.next()))).rstrip()]
+    gaps = [numbers.run(kinds) for _ in range(kinds + 1)]
+    pupils = numbers.run(kinds)
+    places = [tuple(numbers.run(2)) for _ in range(kinds)]
+    jobs = numbers.run(numbers.next())
     numbers.end()
-    return "\n".join(lines) + "\n"
+    return Queue(goal, shift, start, gaps, pupils, places, jobs)
 
 
-def show_plan(message):
+def read_plan(message):
+    """The record of a plan message."""
     numbers = Numbers(message)
     edition, goal = numbers.run(2)
     if edition != 1:
         raise Unreadable("edition %d (refusal 4)" % edition)
-    lines = ["plan goal %d" % goal, "cost %d" % numbers.next(6), "kept %d" % numbers.next(6)]
-    lines += [("order " + joined(numbers.run(numbers.next()))).rstrip()]
+    plan = Plan(goal, numbers.next(6), numbers.next(6), numbers.run(numbers.next()))
     numbers.end()
-    return "\n".join(lines) + "\n"
+    return plan
 
 
 def show(message):
     """The text of a queue or plan message."""
     if message[:2] == b"QS":
-        return show_queue(message)
-    if message[:2] == b"QP":
-        return show_plan(message)
-    raise Unreadable("the first two bytes are neither 51 53 nor 51 50 (refusal 1)")
+        queue = read_queue(message)
+        lines = ["goal %d" % queue.goal, "shift %d" % queue.shift, "start %d" % queue.start]
+        lines += ["gaps " + joined(row) for row in queue.gaps]
+        lines += ["pupils " + joined(queue.pupils), "places " + joined("%d-%d" % pair for pair in queue.places)]
+        lines += ["jobs " + joined(queue.jobs)]
+    elif message[:2] == b"QP":
+        plan = read_plan(message)
+        lines = ["plan goal %d" % plan.goal, "cost %d" % plan.cost, "kept %d" % plan.kept]
+        lines += ["order " + joined(plan.order)]
+    else:
+        raise Unreadable("the first two bytes are neither 51 53 nor 51 50 (refusal 1)")
+    return "".join(line.rstrip() + "\n" for line in lines)
+
+
+def queue_message(given):
+    """A queue's message, and the line of each of its numbers where it was given as a text."""
+    if not given:
+        raise Unreadable("empty; a queue is expected, as a message or as a text")
+    if given[:2] == b"QS":
+        return given, []
+    if given[:2] == b"QP":
+        raise Unreadable("a plan message; a queue is expected")
+    text = given.decode("utf-8-sig", "replace")
+    if len(given) > MOST or not all(sign.isprintable() or sign.isspace() for sign in text.replace("\ufffd", "\0")):
+        raise Unreadable("no queue: neither a text nor a message, whose first two bytes are 51 53 (refusal 1)")
+    return pack(text)
+
+
+def ask(message, entries=None):
+    """The part's answer to a queue message: R, V and the plan's bytes."""
+    if not PART.exists():
+        raise Unreadable("not planned: the part is not built yet; `make run` builds it")
+    words = [str(PART)] + ([] if entries is None else [str(entries)])
+    answer = subprocess.run(words, input=message, stdout=subprocess.PIPE, check=True).stdout
+    numbers, plan = answer.split(b"\n", 1)
+    return tuple(map(int, numbers.split())) + (plan,)
+
+
+def sentences():
+    """What each refusal says, by number: the numbers are the C header's, the sentences those of kippertarn_sentence."""
+    header, helper = (ROOT / "include" / "kippertarn.h").read_text(), (ROOT / "examples" / "messages.h").read_text()
+    numbers = dict(re.findall(r"(KIPPERTARN_\w+) = (\d+)", header))
+    return {int(numbers[name]): said for name, said in re.findall(r'case (KIPPERTARN_\w+): return "(.*)";', helper)}
+
+
+def line_of(message, lines, refusal):
+    """The line of the number that was refused: the last one of the shortest beginning that is refused alike."""
+    least, most = 2, len(message)
+    while least < most:
+        middle = (least + most) // 2
+        least, most = (least, middle) if ask(message[:middle])[0] == refusal else (middle + 1, most)
+    return lines[sum(byte < 128 for byte in message[2:least - 1])]
+
+
+def plan_of(given, entries):
+    """A queue and the part's plan for it."""
+    message, lines = queue_message(given)
+    refusal, value, plan = ask(message, entries)
+    if refusal:
+        line = line_of(message, lines, refusal) if lines and 3 <= refusal <= 13 else 0
+        raise Unreadable("%srefused %d: %s%s" % ("line %d: " % line if line else "", refusal, sentences()[refusal],
+                                                 " It needs %d entries." % value if refusal == 16 else ""))
+    queue, plan = read_queue(message), read_plan(plan)
+    if picture.cost(queue, plan.order) != plan.cost:
+        raise Unreadable("the plan's cost is %d, and its order's %d" % (plan.cost, picture.cost(queue, plan.order)))
+    return queue, plan
 
 
 CASE_A = bytes.fromhex("51530102010100 0A0A 1432 281E 0301 013C 013C 03 010201")
@@ -144,13 +247,12 @@ PLAN_B = bytes.fromhex("51500102C801 07 03 010302")
 
 def self_test():
     """Document 01's cases, every example file there and back, and texts and bytes that are refused."""
-    import pathlib
-    checks = [pack(show(CASE_A)) == CASE_A,
+    checks = [pack(show(CASE_A))[0] == CASE_A,
               show(PLAN_B) == "plan goal 2\ncost 200\nkept 7\norder 1 3 2\n",
-              pack("gaps 65535 # row 0\ngaps 0\npupils 128\n") == NO_JOBS,
-              pack(__doc__.split("comment:\n")[1].split("N is")[0]) == CASE_A]
-    examples = sorted((pathlib.Path(__file__).parent.parent / "examples").glob("*.queue"))
-    checks += [pack(show(path.read_bytes())) == path.read_bytes() for path in examples]
+              pack("gaps 65535 # row 0\ngaps 0\npupils 128\n")[0] == NO_JOBS,
+              pack(__doc__.split("comment:\n")[1].split("N is")[0])[0] == CASE_A]
+    examples = sorted((ROOT / "examples").glob("*.queue"))
+    checks += [pack(show(path.read_bytes()))[0] == path.read_bytes() for path in examples]
     for bad in [b"", b"Q", b"QT", CASE_A[:-1], CASE_A + b"\1", b"QS\x81\0", b"QS\x81", b"QS\2", b"QP\x80\x80\x80\1"]:
         checks.append(refused(show, bad))
     for bad in ["goal", "goal 1 2", "goal x", "gaol 1", "goal 1\ngoal 1", "shift -1", "pupils 1",
@@ -171,22 +273,66 @@ def refused(act, on):
     return False
 
 
+def read_file(name):
+    """The bytes of a file, or of standard input: enough of them to tell a queue from anything longer."""
+    with open(name, "rb") if name not in ("", "-") else sys.stdin.buffer as file:
+        return file.read(MOST + 1)
+
+
+def write_file(name, made):
+    """All of it or nothing, into a file or to standard output."""
+    if name in ("", "-"):
+        sys.stdout.buffer.write(made)
+    elif os.path.exists(name) and not os.path.isfile(name):
+        pathlib.Path(name).write_bytes(made)
+    else:
+        part = pathlib.Path(os.path.realpath(name) + ".part")
+        try:
+            part.write_bytes(made)
+            part.replace(os.path.realpath(name))
+        finally:
+            part.unlink(missing_ok=True)
+
+
+def act(name, given, out, entries):
+    """What a sub-command does with what it was given."""
+    if name == "pack":
+        return write_file(out, queue_message(given)[0])
+    if name == "show":
+        return write_file(out, show(given).encode())
+    queue, plan = plan_of(given, entries)
+    if name == "draw":
+        return write_file(out, picture.as_svg(queue, plan).encode())
+    if out:
+        write_file(out, picture.as_svg(queue, plan).encode())
+    width = max(20, min(shutil.get_terminal_size().columns, 200))
+    coloured = sys.stdout.isatty() and os.environ.get("TERM", "dumb") != "dumb" and not os.environ.get("NO_COLOR")
+    lines = picture.table(queue, plan, width) + [""] + picture.as_text(queue, plan, width, coloured)
+    print("\n".join(lines + ["", "%s has the picture too" % out] * bool(out)))
+
+
 def main(words):
     if words == ["--self-test"]:
         return self_test()
-    if not words or words[0] not in ("pack", "show") or len(words) > 3:
+    entries = None
+    if words[1:2] == ["--entries"] and words[2:3] and words[2].isdigit():
+        entries = int(words.pop(2))
+        words.pop(1)
+    name, given, out, *more = words + [""] * 3
+    if name not in ("pack", "show", "plan", "draw") or any(more) or given.startswith("--"):
         print(__doc__.strip())
         return 0 if words in (["--help"], ["-h"]) else 2
-    given = open(words[1], "rb").read() if len(words) > 1 else sys.stdin.buffer.read()
     try:
-        made = pack(given.decode()) if words[0] == "pack" else show(given).encode()
-    except (Unreadable, UnicodeDecodeError) as trouble:
-        print("queue_text: %s" % trouble, file=sys.stderr)
+        act(name, read_file(given), out, entries)
+    except Unreadable as trouble:
+        print("queue_text: %s%s" % ("" if given in ("", "-") else given + ": ", trouble), file=sys.stderr)
         return 1
-    with open(words[2], "wb") if len(words) > 2 else sys.stdout.buffer as out:
-        out.write(made)
+    except OSError as trouble:
+        print("queue_text: %s: %s" % (trouble.filename, trouble.strerror), file=sys.stderr)
+        return 1
     return 0
 
 
 if __name__ == "__main__":
+    signal.signal(signal.SIGPIPE, signal.SIG_DFL)
     sys.exit(main(sys.argv[1:]))
