@@ -9,11 +9,9 @@ use Rattle.refusal.specs.declared.Written.{Written}
 use Rattle.number.specs.Numbers.{encode}
 use Rattle.fields.specs.Fields.{within, encodeAll}
 use Rattle.fields.specs.Messages.{check, _before_, writeAnswer, bufferAfter}
-use Rattle.fields.specs.Writers.{Writes}
 use Rattle.fields.specs.Orders.{allInOrder, followedBy}
 use Rattle.plan.specs.declared.Plan.{Plan}
-use Rattle.plan.specs.Record.{fresh, jobList, Valid, Same}
-use Rattle.plan.specs.Reading.{readPlan}
+use Rattle.plan.specs.Record.{fresh, jobList}
 
 -- bytes 51 50, then edition 1, goal, cost, kept count, T, then the job at each place
 unfoldable pub message : Plan → List ℕ
@@ -41,7 +39,3 @@ writePlan p room = writeAnswer 77 (judge p) room (message p)
 -- the buffer then
 unfoldable pub writtenPlan : Plan → List ℕ → List ℕ
 writtenPlan p buffer = bufferAfter (writePlan p (length buffer)) (message p) buffer
-
--- demand 2 of the writer: a record, the buffer before and after, and the answer
-abbrev pub WritesPlan : Plan → (buffer buffer′ : List ℕ) → Written → Type 0
-WritesPlan = Writes 77 Valid Same (λ s. readPlan s .verdict) (λ s. readPlan s .plan)

@@ -17,7 +17,8 @@ use Rattle.fields.proofs.Writers.{writes}
 use Rattle.plan.specs.declared.Plan.{Plan}
 use Rattle.plan.specs.Record.{Valid}
 use Rattle.plan.specs.Reading.{plan, blank, cleared, asReading, readPlan}
-use Rattle.plan.specs.Writing.{message, judge, writePlan, writtenPlan, WritesPlan}
+use Rattle.plan.specs.Writing.{message, judge, writePlan, writtenPlan}
+use Rattle.plan.specs.Writer.{WritesPlan}
 use Rattle.formats.proofs.Readings.{Reads, refused-blank as blank-of, accepted-known, accepted-back, accepted-if, refused-like, writer-laws}
 use Rattle.plan_laws.proofs.Format.{Fits, plan-message}
 use Rattle.plan_laws.proofs.JobLists.{cleared-list, cleared-same, cleared-message}

@@ -8,7 +8,8 @@ ghost use Prim.Native.Nat.{_<_, _≤_};
 ghost use lib.ListN.{length, getD, take};
 ghost use lib.Seq.{sets};
 ghost use Rattle.plan.specs.Record.{fresh};
-ghost use Rattle.plan.specs.Writing.{message, allFresh, judge, writePlan, writtenPlan, WritesPlan};
+ghost use Rattle.plan.specs.Writing.{message, allFresh, judge, writePlan, writtenPlan};
+ghost use Rattle.plan.specs.Writer.{WritesPlan};
 ghost use Rattle.plan_writer.specs.Fronts.{frontBytes};
 
 // Whether the job behind the first `places` is from 1 to `jobs` and stands at none of them.

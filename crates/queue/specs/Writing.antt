@@ -6,12 +6,10 @@ use Rattle.refusal.specs.declared.Reason.the-variants.{Kinds, Goal, Shift, Star
 use Rattle.number.specs.Numbers.{encode}
 use Rattle.fields.specs.Fields.{within, all, encodeAll}
 use Rattle.fields.specs.Messages.{check, _before_, writeAnswer, bufferAfter}
-use Rattle.fields.specs.Writers.{Writes}
 use Rattle.queue.specs.declared.Queue.{Queue}
 use Rattle.refusal.specs.declared.Verdict.{Verdict}
 use Rattle.refusal.specs.declared.Written.{Written}
-use Rattle.queue.specs.Record.{rows, weightList, windows, kindList, windowOk, Valid, Same}
-use Rattle.queue.specs.Reading.{readQueue}
+use Rattle.queue.specs.Record.{rows, weightList, windows, kindList, windowOk}
 
 -- a_j b_j
 abbrev pub encodeWindow : ℕ × ℕ → List ℕ
@@ -67,7 +65,3 @@ writeQueue q room = writeAnswer 178 (judge q) room (message q)
 -- the buffer then
 unfoldable pub writtenQueue : Queue → List ℕ → List ℕ
 writtenQueue q buffer = bufferAfter (writeQueue q (length buffer)) (message q) buffer
-
--- demand 2 of the writer: a record, the buffer before and after, and the answer
-abbrev pub WritesQueue : Queue → (buffer buffer′ : List ℕ) → Written → Type 0
-WritesQueue = Writes 178 Valid Same (λ s. readQueue s .verdict) (λ s. readQueue s .queue)

@@ -16,7 +16,8 @@ use Rattle.fields.proofs.Writers.{writes}
 use Rattle.queue.specs.declared.Queue.{Queue}
 use Rattle.queue.specs.Record.{Valid, Fits}
 use Rattle.queue.specs.Reading.{queue, blank, accepted, asReading, readQueue, cleared}
-use Rattle.queue.specs.Writing.{message, judge, writeQueue, writtenQueue, WritesQueue}
+use Rattle.queue.specs.Writing.{message, judge, writeQueue, writtenQueue}
+use Rattle.queue.specs.Writer.{WritesQueue}
 use Rattle.queue.specs.Refusals.{QueueRefusal, on-opening, on-ends, on-groups, on-edition, on-kinds, on-goal, on-shift, on-start, on-gap, on-pupils, on-places, on-jobs, on-job-kind, on-left-over}
 use Rattle.formats.proofs.Refusals.{arises-in}
 use Rattle.formats.proofs.Readings.{Reads, refused-blank as blank-of, accepted-known, accepted-back, accepted-if, refusal-arises, refused-like, writer-laws}

@@ -11,7 +11,8 @@ ghost use lib.Seq.{sets};
 ghost use Rattle.fields.specs.Fields.{within, all, part, encodeAll};
 ghost use Rattle.queue.specs.Record.{windowOk};
 ghost use Rattle.queue_writer.specs.Arrays.{gapRows, windowPairs};
-ghost use Rattle.queue.specs.Writing.{encodeWindow, settingsBytes, headBytes, jobBytes, message, judgeSettings, judgeTables, judgeHead, judgeJobs, judge, writeQueue, writtenQueue, WritesQueue};
+ghost use Rattle.queue.specs.Writing.{encodeWindow, settingsBytes, headBytes, jobBytes, message, judgeSettings, judgeTables, judgeHead, judgeJobs, judge, writeQueue, writtenQueue};
+ghost use Rattle.queue.specs.Writer.{WritesQueue};
 
 // Whether `count` of the values, from `from` on, are all at most `most`.
 fn all_at_most(values: &[u32], from: usize, count: usize, most: u64) -> bool

@@ -9,7 +9,8 @@ use Rattle.refusal.specs.declared.Verdict.the-variants.{Accepted}
 use Rattle.refusal.specs.declared.Written.{Written}
 use Rattle.fields.proofs.Answering.{Answered, record-refused, buffer-short, message-written}
 use Rattle.plan.specs.declared.Plan.{Plan}
-use Rattle.plan.specs.Writing.{message, judge, writePlan, writtenPlan, WritesPlan}
+use Rattle.plan.specs.Writing.{message, judge, writePlan, writtenPlan}
+use Rattle.plan.specs.Writer.{WritesPlan}
 use Rattle.plan_laws.proofs.Theorems.{judged-valid, message-length, plan-writes}
 use borrow.Author.Needs.{needs}
 use Rattle.plan_writer.proofs.write_plan.Statement.{statement}

@@ -9,7 +9,8 @@ use Rattle.refusal.specs.declared.Verdict.the-variants.{Accepted}
 use Rattle.refusal.specs.declared.Written.{Written}
 use Rattle.fields.proofs.Answering.{Answered, record-refused, buffer-short, message-written}
 use Rattle.queue.specs.declared.Queue.{Queue}
-use Rattle.queue.specs.Writing.{judge, message, writeQueue, writtenQueue, WritesQueue}
+use Rattle.queue.specs.Writing.{judge, message, writeQueue, writtenQueue}
+use Rattle.queue.specs.Writer.{WritesQueue}
 use Rattle.queue_laws.proofs.Theorems.{judged-exactly, message-length, queue-writes}
 use borrow.Author.Needs.{needs}
 use Rattle.queue_writer.proofs.write_queue.Statement.{statement}
