@@ -75,7 +75,11 @@ ends-groups first (suc g) p (b ∷ s) v n e = elim (bool-cases (ltb b 128)) [
   | inr t ↦ (let q = above-is (b - 128) (groupsAt false g (p + 1) s) v n (rw t at e) in
       let i = ends-groups false g (p + 1) s (q .0) n (q .1) in
       let pos : 0 < q .0 = i .canonical refl in
-      record { most = omega (arith, i .most); small = longer v (q .0) p n pos (omega (arith, q .2)) (i .small); canonical = λ _. omega (arith, q .2) })
+      record {
+        most = omega (arith, i .most);
+        small = longer v (q .0) p n pos (omega (arith, q .2)) (i .small);
+        canonical = λ _. omega (arith, q .2);
+      })
 ]
 
 -- the bytes from position p on are those of v and no others, and n is the position behind them

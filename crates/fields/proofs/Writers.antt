@@ -35,7 +35,8 @@ module _ (s buffer : List ℕ) (h : length s ≤ length buffer) where
   behind = ap (drop (length s)) parts ∙ drop-append-seam s (drop (length s) buffer)
 
 -- so many bytes are answered only of an accepted record and a buffer that is long enough
-was-written : (least : ℕ) (v : Verdict) (room : ℕ) (message : List ℕ) (n : ℕ) → writeAnswer least v room message ≡ Wrote n → (v ≡ Accepted) × (leb least room ≡ true)
+was-written : (least : ℕ) (v : Verdict) (room : ℕ) (message : List ℕ) (n : ℕ) → writeAnswer least v room message ≡ Wrote n
+    → (v ≡ Accepted) × (leb least room ≡ true)
 was-written least Accepted room message n e = (refl, roomy (leb least room) e)
   where
     roomy : (b : Bool) → cond b (Wrote (length message)) (NotWritten Buffer) ≡ Wrote n → b ≡ true
@@ -65,7 +66,8 @@ module _ {R : Type 0} {least : ℕ} {Valid : R → Type 0} {Same : R → R → T
   module _ (v : Valid r) (h : least ≤ length buffer) where
     wrote : (answer ≡ Wrote (length (message r))) × (buffer′ ≡ sets buffer 0 (message r))
     wrote =
-        let due : writeAnswer least (judge r) (length buffer) (message r) ≡ Wrote (length (message r)) = rw (L .accepts r .1 v, le-leb least (length buffer) h) in
+        let due : writeAnswer least (judge r) (length buffer) (message r) ≡ Wrote (length (message r)) =
+        rw (L .accepts r .1 v, le-leb least (length buffer) h) in
         (a .0 ∙ due, a .1 ∙ ap (λ (d : Written). bufferAfter d (message r) buffer) due)
 
     fits : length (message r) ≤ length buffer
@@ -84,8 +86,9 @@ module _ {R : Type 0} {least : ℕ} {Valid : R → Type 0} {Same : R → R → T
     refused = λ other. go answer refl other;
     written = λ v h.
         let (number, bytes) = wrote v h in
-        let n = length (message r) in
-        (n, number, rw number (omega arith), rw number (omega arith), rw (bytes, length-sets) (fits v h), rw (taken v h) (L .there r v .0), rw (taken v h) (L .there r v .1));
+        let (accepted, same) = L .there r v in
+        let long : length (message r) ≤ length buffer′ = rw (bytes, length-sets) (fits v h) in
+        (length (message r), number, rw number (omega arith), rw number (omega arith), long, rw (taken v h) accepted, rw (taken v h) same);
     rewritten = λ s y accepted is h.
         let b = L .back s y accepted in
         let same : message r ≡ s = ap message is ∙ b .0 in

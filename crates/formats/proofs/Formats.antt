@@ -29,10 +29,9 @@ pub record Format (A Given : Type 0) (wide far : ℕ) (whys : List Reason) : Typ
   pub Sized : A → Type 0
   -- those whose numbers have no more groups than they may
   pub Small : A → Type 0
-  -- what was found, and where it ends
-  pub finds : Given → (s : List ℕ) (at : ℕ) (a : A) (n : ℕ) → read s at ≡ found a n → Known a × (n ≤ at + wide)
-  -- .. and in bytes it stands there as it is written
-  pub reads : Given → (s : List ℕ) (at : ℕ) (a : A) (n : ℕ) → Bytes s → read s at ≡ found a n → Stand s at (write a) n × Ok a
+  -- what was found, and where it ends; and in bytes it stands there as it is written
+  pub reads : Given → (s : List ℕ) (at : ℕ) (a : A) (n : ℕ) → read s at ≡ found a n
+      → Known a × (n ≤ at + wide) × (Bytes s → Stand s at (write a) n × Ok a)
   -- what is written is found
   pub writes : Given → (s : List ℕ) (at : ℕ) (a : A) (rest : List ℕ) → Ok a → drop at s ≡ write a ++ rest → read s at ≡ found a (at + length (write a))
   pub short : Given → (a : A) → Ok a → length (write a) ≤ wide

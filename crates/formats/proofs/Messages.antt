@@ -19,7 +19,8 @@ use Rattle.formats.proofs.Refusals.{Arises}
 use Rattle.formats.proofs.Formats.{Format}
 use Rattle.formats.proofs.Whole.{whole, whole-written, whole-refuses, whole-found, whole-bytes, whole-same, whole-gives}
 
-pub record Message {R : Type 0} (read : Reader R) (message : R → List ℕ) (Valid Known Fits : R → Type 0) (judge : R → Verdict) (cleared : R → R) (most enough : ℕ) (whys : List Reason) : Type 0 where
+pub record Message {R : Type 0} (read : Reader R) (message : R → List ℕ) (Valid Known Fits : R → Type 0) (judge : R → Verdict) (cleared : R → R)
+    (most enough : ℕ) (whys : List Reason) : Type 0 where
   -- a valid record, written and read, is the same record, cleared past its counts
   pub written : (q : R) → Valid q → read (message q) 0 ≡ found (cleared q) (length (message q))
   -- what was read is known, and holds 0 past its counts
@@ -54,17 +55,22 @@ module _ {R A : Type 0} {wide far : ℕ} {whys : List Reason} {a b : ℕ} {F : F
     {read : Reader R} {message : R → List ℕ} {Valid Known Fits : R → Type 0} {judge : R → Verdict} {cleared : R → R}
     (T : Tied a b F make view read message Valid Known Fits judge cleared) where
   -- the parts of what was read
-  read-parts : (s : List ℕ) (q : R) (n : ℕ) → read s 0 ≡ found q n → (make (view q) ≡ q) × (opens a b s ≡ true) × (F .read s 2 ≡ found (view q) (length s))
+  read-parts : (s : List ℕ) (q : R) (n : ℕ) → read s 0 ≡ found q n
+      → (make (view q) ≡ q) × (opens a b s ≡ true) × (F .read s 2 ≡ found (view q) (length s))
   read-parts s q n e =
       let (parts, m, o, f) = whole-found a b F make s q n (sym (T .read-is s) ∙ e) in
-      let h : view q ≡ parts = ap view (sym m) ∙ T .holds parts (F .finds tt s 2 parts (length s) f .0) in
+      let h : view q ≡ parts = ap view (sym m) ∙ T .holds parts (F .reads tt s 2 parts (length s) f .0) in
       (ap make h ∙ m, o, f ∙ ap (λ (p : A). found p (length s)) (sym h))
 
-  pub laws : (enough : ℕ) → 2 + far ≤ enough → 2 + wide < enough → Message read message Valid Known Fits judge cleared (2 + wide) enough (Opening ∷ LeftOver ∷ whys)
+  pub laws : (enough : ℕ) → 2 + far ≤ enough → 2 + wide < enough
+      → Message read message Valid Known Fits judge cleared (2 + wide) enough (Opening ∷ LeftOver ∷ whys)
   laws enough f w = record {
     written = λ q v. rw (T .message-is q, T .read-is, T .cleared-is q) (whole-written a b F make (view q) (T .valid-is q .1 v));
-    known = λ s q n e. let (m, o, f) = read-parts s q n e in (T .known-is q (F .finds tt s 2 (view q) (length s) f .0), T .cleared-is q ∙ m);
-    back = λ s y q n e. let (m, o, f) = read-parts s q n e in let (k, p) = whole-bytes a b F make s y (view q) o f in (T .message-is q ∙ p, T .valid-is q .0 k);
+    known = λ s q n e. let (m, o, f) = read-parts s q n e in (T .known-is q (F .reads tt s 2 (view q) (length s) f .0), T .cleared-is q ∙ m);
+    back = λ s y q n e.
+        let (m, o, f) = read-parts s q n e in
+        let (k, p) = whole-bytes a b F make s y (view q) o f in
+        (T .message-is q ∙ p, T .valid-is q .0 k);
     short = λ q v. rw (T .message-is q) (omega (arith, F .short tt (view q) (T .valid-is q .1 v)));
     same = λ s. T .read-is (take enough s) ∙ whole-same a b F make enough f w s ∙ sym (T .read-is s);
     gives = λ s r e. whole-gives a b F make s r (sym (T .read-is s) ∙ e);

@@ -36,8 +36,7 @@ anyNumber g h = record {
   Sized = λ v. Unit;
   Small = λ v. v < 128 ^ g;
   judge = λ v. check (ltb v (128 ^ g)) Groups;
-  finds = λ _ s at v n e. (tt, number-ends g s at v n e .0);
-  reads = λ _. number-codec g h .reads;
+  reads = λ _ s at v n e. (tt, number-ends g s at v n e .0, λ y. number-codec g h .reads s at v n y e);
   writes = λ _. number-codec g h .writes;
   short = λ _ v k. length-encode g v h k;
   same = λ _ s at m l. number-same g s at m l;
@@ -63,8 +62,9 @@ tested g ok why w h l small = record {
   Sized = λ v. Unit;
   Small = λ v. v < 128 ^ g;
   judge = λ v. check (ok v) why;
-  finds = λ z s at v n e. let f = field-found g ok why s at v n e in (f .1, number-ends g s at v n (f .0) .1 w l (small z v (f .1) .0));
-  reads = λ z s at v n y e. let r = field-codec g ok why h .reads s at v n y e in (r .0, r .1 .1);
+  reads = λ z s at v n e.
+      let (f, t) = field-found g ok why s at v n e in
+      (t, number-ends g s at v n f .1 w l (small z v t .0), λ y. let r = field-codec g ok why h .reads s at v n y e in (r .0, r .1 .1));
   writes = λ z s at v rest k e. field-codec g ok why h .writes s at v rest (small z v k .1, k) e;
   short = λ z v k. length-encode w v l (small z v k .0);
   same = λ z s at m k. and-same (number g (take m s) at) (number g s at) _ _ (number-same g s at m k) (λ v n e. refl);
@@ -76,12 +76,13 @@ tested g ok why w h l small = record {
 -- a number of low to high, in at most w of 3 groups: the test of most fields
 abbrev pub bounded : {Given : Type 0} (low high : ℕ) (why : Reason) (w : ℕ) → 0 < w → (Given → (high < 128 ^ w) × (high < 128 ^ 3)) → Format ℕ Given w 3 (why ∷ [])
 bounded low high why w l h =
-    let F = tested 3 (within low high) why w (omega arith) l (λ z v e. let b = within-true low high v e in let k = h z in (omega arith, omega arith)) in
+    let F = tested 3 (within low high) why w (omega arith) l
+    (λ z v e. let b = within-true low high v e in let k = h z in (omega arith, omega arith)) in
     rejudged F (record {
       Ok = λ v. (low ≤ v) × (v ≤ high);
       Known = λ v. (low ≤ v) × (v ≤ high);
       known = λ z v k. k;
-      finds = λ z s at v n e. let r = F .finds z s at v n e in (within-true low high v (r .0), r .1);
+      finds = λ z s at v n e. let r = F .reads z s at v n e in (within-true low high v (r .0), r .1);
       Sized = λ v. Unit;
       judge = λ v. check (within low high v) why;
       ok-is = λ z v. (λ e. within-true low high v e, λ b. true-within low high v (b .0) (b .1));

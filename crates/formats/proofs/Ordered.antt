@@ -47,7 +47,7 @@ module _ {Given : Type 0} (ok : List ℕ → ℕ → Bool) (why : Reason) (w : �
     Ok = λ vs. (length vs ≡ n) × (allInOrder ok followedBy [] vs ≡ true);
     Known = λ vs. (length vs ≡ n) × (allInOrder ok followedBy [] vs ≡ true);
     known = λ z vs k. k;
-    finds = λ z s at vs end e. let r = plain .finds z s at vs end e in (plain-ok z vs .0 (r .0), r .1);
+    finds = λ z s at vs end e. let r = plain .reads z s at vs end e in (plain-ok z vs .0 (r .0), r .1);
     Sized = λ vs. length vs ≡ n;
     judge = λ vs. check (allInOrder ok followedBy [] vs) why;
     ok-is = plain-ok;

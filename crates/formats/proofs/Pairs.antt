@@ -45,23 +45,19 @@ module _ {A B Given : Type 0} {wideA wideB farA farB : ℕ} {whysA whysB : List 
   pub pair-known : Given → (p : A × B) → BothOk p → BothKnown p
   pair-known z p k = let a = F .known z (p .0) (k .0) in (a, G (p .0) .known (z, a) (p .1) (k .1))
 
-  pub pair-finds : Given → (s : List ℕ) (at : ℕ) (p : A × B) (n : ℕ) → bothRead s at ≡ found p n → BothKnown p × (n ≤ at + (wideA + wideB))
-  pair-finds z s at p n e =
+  pub pair-reads : Given → (s : List ℕ) (at : ℕ) (p : A × B) (n : ℕ) → bothRead s at ≡ found p n
+      → BothKnown p × (n ≤ at + (wideA + wideB)) × (Bytes s → Stand s at (bothBytes p) n × BothOk p)
+  pair-reads z s at p n e =
       let (a, i, e₁, q₁) = went-on (F .read s at) _ p n e in
       let (b, k, e₂, q₂) = went-on (G a .read s i) _ p n q₁ in
-      let x = F .finds z s at a i e₁ in
-      let u = G a .finds (z, x .0) s i b k e₂ in
-      subst₂ (λ (t : A × B) (m : ℕ). BothKnown t × (m ≤ at + (wideA + wideB))) (found-value (a, b) p k n q₂) (found-next (a, b) p k n q₂)
-      ((x .0, u .0), omega (arith, x .1, u .1))
-
-  pub pair-reads : Given → (s : List ℕ) (at : ℕ) (p : A × B) (n : ℕ) → Bytes s → bothRead s at ≡ found p n → Stand s at (bothBytes p) n × BothOk p
-  pair-reads z s at p n y e =
-      let (a, i, e₁, q₁) = went-on (F .read s at) _ p n e in
-      let (b, k, e₂, q₂) = went-on (G a .read s i) _ p n q₁ in
-      let x = F .reads z s at a i y e₁ in
-      let u = G a .reads (z, F .known z a (x .1)) s i b k y e₂ in
-      subst₂ (λ (t : A × B) (m : ℕ). Stand s at (bothBytes t) m × BothOk t) (found-value (a, b) p k n q₂) (found-next (a, b) p k n q₂)
-      (stand-append s at (F .write a) i (G a .write b) k (x .0) (u .0), (x .1, u .1))
+      let (known-a, near-a, stands-a) = F .reads z s at a i e₁ in
+      let (known-b, near-b, stands-b) = G a .reads (z, known-a) s i b k e₂ in
+      subst₂ (λ (t : A × B) (m : ℕ). BothKnown t × (m ≤ at + (wideA + wideB)) × (Bytes s → Stand s at (bothBytes t) m × BothOk t))
+      (found-value (a, b) p k n q₂) (found-next (a, b) p k n q₂) (
+        (known-a, known-b),
+        omega arith,
+        λ y. let (x, okx) = stands-a y in let (u, oku) = stands-b y in (stand-append s at (F .write a) i (G a .write b) k x u, (okx, oku)),
+      )
 
   pub pair-writes : Given → (s : List ℕ) (at : ℕ) (p : A × B) (rest : List ℕ) → BothOk p → drop at s ≡ bothBytes p ++ rest
       → bothRead s at ≡ found p (at + length (bothBytes p))
@@ -69,17 +65,19 @@ module _ {A B Given : Type 0} {wideA wideB farA farB : ℕ} {whysA whysB : List 
       let X = F .write (p .0) in
       let Y = G (p .0) .write (p .1) in
       let e₁ = e ∙ append-assoc X Y rest in
-      rw (F .writes z s at (p .0) (Y ++ rest) (k .0) e₁, G (p .0) .writes (z, F .known z (p .0) (k .0)) s (at + length X) (p .1) rest (k .1) (past s at X (Y ++ rest) e₁))
+      let known = F .known z (p .0) (k .0) in
+      rw (F .writes z s at (p .0) (Y ++ rest) (k .0) e₁, G (p .0) .writes (z, known) s (at + length X) (p .1) rest (k .1) (past s at X (Y ++ rest) e₁))
       (ap (found p) (omega (arith, length-append X Y)))
 
   pub pair-short : Given → (p : A × B) → BothOk p → length (bothBytes p) ≤ wideA + wideB
   pair-short z p k =
-      omega (arith, length-append (F .write (p .0)) (G (p .0) .write (p .1)), F .short z (p .0) (k .0), G (p .0) .short (z, F .known z (p .0) (k .0)) (p .1) (k .1))
+      let known = F .known z (p .0) (k .0) in
+      omega (arith, length-append (F .write (p .0)) (G (p .0) .write (p .1)), F .short z (p .0) (k .0), G (p .0) .short (z, known) (p .1) (k .1))
 
   pub pair-same : Given → (s : List ℕ) (at m : ℕ) → at + max farA (wideA + farB) ≤ m → bothRead (take m s) at ≡ bothRead s at
   pair-same z s at m h =
       and-same (F .read (take m s) at) (F .read s at) _ _ (F .same z s at m (omega arith))
-      (λ a i e₁. let x = F .finds z s at a i e₁ in
+      (λ a i e₁. let x = F .reads z s at a i e₁ in
       and-same (G a .read (take m s) i) (G a .read s i) _ _ (G a .same (z, x .0) s i m (omega (arith, x .1))) (λ b k e₂. refl))
 
   pub pair-gives : (s : List ℕ) (at : ℕ) → Gives (Arises (whysA ++ whysB)) (bothRead s at)
@@ -122,7 +120,6 @@ module _ {A B Given : Type 0} {wideA wideB farA farB : ℕ} {whysA whysB : List 
     Sized = λ p. F .Sized (p .0) × G (p .0) .Sized (p .1);
     Small = λ p. F .Small (p .0) × G (p .0) .Small (p .1);
     judge = λ p. F .judge (p .0) before G (p .0) .judge (p .1);
-    finds = pair-finds;
     reads = pair-reads;
     writes = pair-writes;
     short = pair-short;

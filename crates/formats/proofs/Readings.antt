@@ -21,7 +21,8 @@ pub record Reads {R : Type 0} (read : Reader R) (blank : R) (verdict : List ℕ 
   pub on-found : (s : List ℕ) (q : R) (n : ℕ) → read s 0 ≡ found q n → (verdict s ≡ Accepted) × (recordOf s ≡ q)
   pub on-refused : (s : List ℕ) (r : Reason) → read s 0 ≡ refused r → (verdict s ≡ Refused r) × (recordOf s ≡ blank)
 
-module _ {R : Type 0} {read : Reader R} {blank : R} {verdict : List ℕ → Verdict} {recordOf : List ℕ → R} (T : Reads read blank verdict recordOf) (s : List ℕ) where
+module _ {R : Type 0} {read : Reader R} {blank : R} {verdict : List ℕ → Verdict} {recordOf : List ℕ → R}
+    (T : Reads read blank verdict recordOf) (s : List ℕ) where
   accepted-found : verdict s ≡ Accepted → (n : ℕ) × (read s 0 ≡ found (recordOf s) n)
   accepted-found e = go (read s 0) refl
     where
@@ -44,8 +45,8 @@ module _ {R : Type 0} {read : Reader R} {blank : R} {verdict : List ℕ → Verd
       go (found q n) h = absurd (other (rw (T .on-found s q n h .0)))
       go (refused r) h = T .on-refused s r h .1
 
-module _ {R : Type 0} {read : Reader R} {message : R → List ℕ} {Valid Known Fits : R → Type 0} {judge : R → Verdict} {cleared : R → R} {most enough : ℕ} {whys : List Reason}
-    {blank : R} {verdict : List ℕ → Verdict} {recordOf : List ℕ → R}
+module _ {R : Type 0} {read : Reader R} {message : R → List ℕ} {Valid Known Fits : R → Type 0} {judge : R → Verdict} {cleared : R → R}
+    {most enough : ℕ} {whys : List Reason} {blank : R} {verdict : List ℕ → Verdict} {recordOf : List ℕ → R}
     (M : Message read message Valid Known Fits judge cleared most enough whys) (T : Reads read blank verdict recordOf) where
   there : (q : R) → Valid q → (verdict (message q) ≡ Accepted) × (recordOf (message q) ≡ cleared q)
   there q v = T .on-found (message q) (cleared q) (length (message q)) (M .written q v)

@@ -10,6 +10,7 @@ use Rattle.refusal.specs.declared.Verdict.{Verdict}
 use Rattle.refusal.specs.declared.Verdict.the-variants.{Accepted}
 use Rattle.number.specs.Readers.{found, Reader, andThen}
 use Rattle.number.proofs.Steps.{went-on, found-value, found-next}
+use Rattle.fields.specs.Lists.{Bytes}
 use Rattle.fields.proofs.Codecs.{Stand}
 use Rattle.fields.proofs.Refusing.{gives-found, gives-then}
 use Rattle.formats.proofs.Refusals.{Arises}
@@ -27,8 +28,7 @@ retold F read write read-is write-is = record {
   Sized = F .Sized;
   Small = F .Small;
   judge = F .judge;
-  finds = λ z s at a n e. F .finds z s at a n (sym (read-is s at) ∙ e);
-  reads = λ z s at a n y e. let r = F .reads z s at a n y (sym (read-is s at) ∙ e) in (rw (write-is a) (r .0), r .1);
+  reads = λ z s at a n e. let (k, l, b) = F .reads z s at a n (sym (read-is s at) ∙ e) in (k, l, λ y. (rw (write-is a) (b y .0), b y .1));
   writes = λ z s at a rest k e. rw (write-is a) (read-is s at ∙ F .writes z s at a rest k (rw (write-is a) at e));
   short = λ z a k. rw (write-is a) (F .short z a k);
   same = λ z s at m h. read-is (take m s) at ∙ F .same z s at m h ∙ sym (read-is s at);
@@ -61,8 +61,9 @@ rejudged F R = record {
   Sized = R .Sized;
   Small = F .Small;
   judge = R .judge;
-  finds = R .finds;
-  reads = λ z s at a n y e. let r = F .reads z s at a n y e in (r .0, R .ok-is z a .0 (r .1));
+  reads = λ z s at a n e.
+      let (k, l) = R .finds z s at a n e in
+      (k, l, λ y. let b = F .reads z s at a n e .2 y in (b .0, R .ok-is z a .0 (b .1)));
   writes = λ z s at a rest k e. F .writes z s at a rest (R .ok-is z a .1 k) e;
   short = R .short;
   same = F .same;
@@ -83,14 +84,11 @@ mapped {wide} {whys} F make view there back = record {
   Sized = λ b. F .Sized (view b);
   Small = λ b. F .Small (view b);
   judge = λ b. F .judge (view b);
-  finds = λ z s at b n e.
+  reads = λ z s at b n e.
       let (a, i, f, p) = went-on (F .read s at) (λ a n. found (make a) n) b n e in
       let same : a ≡ view b = sym (there a) ∙ ap view (found-value (make a) b i n p) in
-      subst₂ (λ c m. F .Known c × (m ≤ at + wide)) same (found-next (make a) b i n p) (F .finds z s at a i f);
-  reads = λ z s at b n y e.
-      let (a, i, f, p) = went-on (F .read s at) (λ a n. found (make a) n) b n e in
-      let same : a ≡ view b = sym (there a) ∙ ap view (found-value (make a) b i n p) in
-      subst₂ (λ c m. Stand s at (F .write c) m × F .Ok c) same (found-next (make a) b i n p) (F .reads z s at a i y f);
+      subst₂ (λ c m. F .Known c × (m ≤ at + wide) × (Bytes s → Stand s at (F .write c) m × F .Ok c)) same (found-next (make a) b i n p)
+      (F .reads z s at a i f);
   writes = λ z s at b rest k e. rw (F .writes z s at (view b) rest k e, back b);
   short = λ z b k. F .short z (view b) k;
   same = λ z s at m h. ap (λ f. andThen f (λ a n. found (make a) n)) (F .same z s at m h);

@@ -57,9 +57,10 @@ module _ {R A : Type 0} {wide far : ℕ} {whys : List Reason} (a b : ℕ) (F : F
       (parts, found-value (make parts) q k n p₂, o .0, ap (F .read s) two ∙ e₁ ∙ ap (found parts) last)
 
   -- .. in bytes they are written there
-  pub whole-bytes : (s : List ℕ) → Bytes s → (parts : A) → opens a b s ≡ true → F .read s 2 ≡ found parts (length s) → F .Ok parts × ((a ∷ b ∷ []) ++ F .write parts ≡ s)
+  pub whole-bytes : (s : List ℕ) → Bytes s → (parts : A) → opens a b s ≡ true → F .read s 2 ≡ found parts (length s)
+      → F .Ok parts × ((a ∷ b ∷ []) ++ F .write parts ≡ s)
   whole-bytes s y parts o e =
-      let r = F .reads tt s 2 parts (length s) y e in
+      let r = F .reads tt s 2 parts (length s) e .2 y in
       let rest : drop 2 s ≡ F .write parts = r .0 .here ∙ ap (λ (l : List ℕ). F .write parts ++ l) (drop-length s) ∙ append-nil (F .write parts) in
       (r .1, sym (opens-bytes a b s o ∙ ap (λ (l : List ℕ). (a ∷ b ∷ []) ++ l) rest))
 
@@ -69,7 +70,7 @@ module _ {R A : Type 0} {wide far : ℕ} {whys : List Reason} (a b : ℕ) (F : F
       and-same (opening a b (take m s) 0) (opening a b s 0) _ _ (ap (λ (t : Bool). cond t (found tt 2) (refused Opening)) (opens-same a b s m (omega arith)))
       λ u i e₀. let two : 2 ≡ i = found-next tt u 2 i (passed (opens a b s) (found tt 2) Opening u i e₀ .1) in
       and-same (F .read (take m s) i) (F .read s i) _ _ (F .same tt s i m (omega arith))
-      λ parts j e₁. ap (λ (t : Bool). andThen (cond t (found tt j) (refused LeftOver)) (λ _ k. found (make parts) k)) (end-same s j m (omega (arith, F .finds tt s i parts j e₁ .1)))
+      λ parts j e₁. ap (λ (t : Bool). andThen (cond t (found tt j) (refused LeftOver)) (λ _ k. found (make parts) k)) (end-same s j m (omega (arith, F .reads tt s i parts j e₁ .1)))
 
   -- its refusals
   pub whole-gives : (s : List ℕ) → Gives (Arises (Opening ∷ LeftOver ∷ whys)) (whole s 0)

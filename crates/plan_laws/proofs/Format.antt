@@ -48,7 +48,7 @@ longNumber =
       Ok = λ v. v < 2 ^ 42;
       Known = F .Known;
       known = λ z v k. tt;
-      finds = F .finds;
+      finds = λ z s at v n e. let r = F .reads z s at v n e in (r .0, r .1);
       Sized = F .Sized;
       judge = λ v. check (within 0 (2 ^ 42 - 1) v) Groups;
       ok-is = λ z v. (λ k. k, λ k. k);

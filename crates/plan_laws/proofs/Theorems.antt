@@ -51,7 +51,8 @@ accepted-exactly = accepted-if plan-message reads
 pub plan-writes : {p : Plan} {buffer buffer′ : List ℕ} {answer : Written} → answer ≡ writePlan p (length buffer) → buffer′ ≡ writtenPlan p buffer
     → WritesPlan p buffer buffer′ answer
 unfolding writePlan writtenPlan
-plan-writes {p} {buffer} {buffer′} {answer} e after = writes (writer-laws plan-message reads (λ p v. cleared-same p (v .jobs))) p buffer buffer′ answer (e, after)
+plan-writes {p} {buffer} {buffer′} {answer} e after =
+    writes (writer-laws plan-message reads (λ p v. cleared-same p (v .jobs))) p buffer buffer′ answer (e, after)
 
 -- no accepted plan is longer than 77 bytes
 pub message-length : (p : Plan) → Valid p → length (message p) ≤ 77
@@ -84,7 +85,9 @@ pub cleared-judge : (p : Plan) → judge (cleared p) ≡ judge p
 unfolding judge
 cleared-judge p = elim (below-or-not 60 (p .jobs)) [ inl h ↦ rw (high-out 0 60 (p .jobs) h) | inr h ↦ rw (cleared-list p h) ]
 
-pub cleared-writes : (p : Plan) (buffer : List ℕ) → (writePlan (cleared p) (length buffer) ≡ writePlan p (length buffer)) × (writtenPlan (cleared p) buffer ≡ writtenPlan p buffer)
+pub cleared-writes : (p : Plan) (buffer : List ℕ)
+    → (writePlan (cleared p) (length buffer) ≡ writePlan p (length buffer)) × (writtenPlan (cleared p) buffer ≡ writtenPlan p buffer)
 unfolding writePlan writtenPlan
 cleared-writes p buffer =
-    written-alike 77 (judge (cleared p)) (judge p) (message (cleared p)) (message p) (cleared-judge p) (λ e. cleared-message p (judged-valid p e .jobs)) (length buffer) buffer
+    written-alike 77 (judge (cleared p)) (judge p) (message (cleared p)) (message p) (cleared-judge p)
+    (λ e. cleared-message p (judged-valid p e .jobs)) (length buffer) buffer

@@ -90,7 +90,9 @@ module _ (q : Queue) where
       })
 
   -- the writer's answer and the buffer: for every record, also one that is refused
-  pub cleared-writes : (buffer : List ℕ) → (writeQueue (cleared q) (length buffer) ≡ writeQueue q (length buffer)) × (writtenQueue (cleared q) buffer ≡ writtenQueue q buffer)
+  pub cleared-writes : (buffer : List ℕ)
+      → (writeQueue (cleared q) (length buffer) ≡ writeQueue q (length buffer)) × (writtenQueue (cleared q) buffer ≡ writtenQueue q buffer)
   unfolding writeQueue writtenQueue
   cleared-writes buffer =
-      written-alike 178 (judge (cleared q)) (judge q) (message (cleared q)) (message q) cleared-judge (λ e. cleared-message (queue-message .accepts q .0 e)) (length buffer) buffer
+      written-alike 178 (judge (cleared q)) (judge q) (message (cleared q)) (message q) cleared-judge
+      (λ e. cleared-message (queue-message .accepts q .0 e)) (length buffer) buffer

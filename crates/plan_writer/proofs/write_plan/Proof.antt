@@ -48,7 +48,8 @@ returns-3 c =
     let call = c .before .before in
     let long = call .before .before in
     let args = entry (long .before) .args in
-    kept (message-written 77 _ (message (args .plan)) (args .buffer .now) (accepted (long .before)) (long .if1 .left) _ _ (call .write-message .ensures))
+    kept
+    (message-written 77 _ (message (args .plan)) (args .buffer .now) (accepted (long .before)) (long .if1 .left) _ _ (call .write-message .ensures))
 
 pub write-plan-spec : {M : Type 1} → statement M
 write-plan-spec =

@@ -42,13 +42,16 @@ write-message-requires c κs =
 returns-2 : tie.Need-returns-2
 returns-2 c =
     let why = c .before in
-    kept (record-refused 178 _ (message (why .before .before .before .before .args .queue)) _ _ (sym (why .before .before .judge-queue .ensures) ∙ why .why .given .1))
+    let q = why .before .before .before .before .args .queue in
+    kept (record-refused 178 (judge q) (message q) _ _ (sym (why .before .before .judge-queue .ensures) ∙ why .why .given .1))
 
 returns-3 : tie.Need-returns-3
 returns-3 c =
     let call = c .before .before in
     let room = call .before .before in
-    kept (message-written 178 _ (message (at-entry (room .before) .args .queue)) _ (accepted (room .before)) (room .if1 .left) _ _ (call .write-message .ensures))
+    let args = at-entry (room .before) .args in
+    kept
+    (message-written 178 _ (message (args .queue)) (args .buffer .now) (accepted (room .before)) (room .if1 .left) _ _ (call .write-message .ensures))
 
 pub write-queue-spec : {M : Type 1} → statement M
 write-queue-spec =
