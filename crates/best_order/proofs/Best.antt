@@ -1,18 +1,17 @@
 -- Demand 3 and the planning contract, from what planning answers and leaves.
 -- Assumes nothing.
-use Prim.Native.Nat.{ℕ, _+_, _≤_}
-use mathlib.Core.List.{List, _++_}
+use Prim.Native.Nat.{ℕ, _≤_}
+use mathlib.Core.List.{List}
 use mathlib.Core.Option.{Option, none, some}
 use mathlib.Core.Path.{_≡_, refl, sym, ap, _∙_}
-use native.Mathlib.Nat.{zero-add}
 use native.Mathlib.Omega.{arith}
-use lib.ListN.{length, getD, take, drop}
-use lib.Seq.{sets, sets-eq, length-sets, take-append-seam, drop-append-seam}
+use lib.ListN.{length, getD}
+use lib.Seq.{length-sets}
 use borrow.Author.Tests.{lt-ltb, le-ltb}
 use Rattle.refusal.specs.declared.Verdict.the-variants.{Accepted}
 use Rattle.refusal.specs.declared.Answer.{Answer}
 use Rattle.refusal.specs.Answers.{answerNumber}
-use Rattle.fields.proofs.Codecs.{Bytes}
+use Rattle.fields.proofs.Writers.{stands, behind}
 use Rattle.queue.specs.declared.Queue.{Queue}
 use Rattle.queue.specs.Record.{Valid}
 use Rattle.queue.specs.Reading.{readQueue}
@@ -45,17 +44,6 @@ module _ (P : Problem) (table table′ : List ℕ) (filled : FilledTable P table
 
 -- ---- the written plan
 
--- a message written from the first byte on stands there, and bytes behind it are as before
-module _ (s buffer : List ℕ) (h : length s ≤ length buffer) where
-  parts : sets buffer 0 s ≡ s ++ drop (length s) buffer
-  parts = sets-eq s buffer 0 (omega arith) ∙ ap (λ (n : ℕ). s ++ drop n buffer) (zero-add (length s))
-
-  written : take (length s) (sets buffer 0 s) ≡ s
-  written = ap (take (length s)) parts ∙ take-append-seam s (drop (length s) buffer)
-
-  behind : drop (length s) (sets buffer 0 s) ≡ drop (length s) buffer
-  behind = ap (drop (length s)) parts ∙ drop-append-seam s (drop (length s) buffer)
-
 module _ (q : Queue) (v : Valid q) (table buffer table′ buffer′ : List ℕ) where
   abbrev P : Problem
   P = problem q
@@ -79,7 +67,7 @@ module _ (q : Queue) (v : Valid q) (table buffer table′ buffer′ : List ℕ) 
           length s,
           refl,
           rw (holds, length-sets) short,
-          rw (holds, written s buffer short, read-again q v c e) (best-plan q v c e),
+          rw (holds, stands s buffer short, read-again q v c e) (best-plan q v c e),
         );
         behind = λ n a. let e : n ≡ length s = omega arith in rw (e, holds) (behind s buffer short);
         unwritten = λ a. absurd (omega arith);
@@ -88,24 +76,24 @@ module _ (q : Queue) (v : Valid q) (table buffer table′ buffer′ : List ℕ) 
       }
 
 -- demand 3
-best-order : (s table buffer table′ buffer′ : List ℕ) → Bytes s
+best-order : (s table buffer table′ buffer′ : List ℕ)
     → LeavesTable (tableOf (endingOn s table buffer)) table table′ → buffer′ ≡ bufferOf (endingOn s table buffer) buffer
     → BestOrder s table buffer table′ buffer′ (answerNumber (answerOf (endingOn s table buffer)))
-best-order s table buffer table′ buffer′ y filled holds a h k =
+best-order s table buffer table′ buffer′ filled holds a h k =
     let q : Queue = readQueue s .queue in
     let e = reached s (length table) (length buffer) a k h in
-    rw e (best q (accepted-valid s y a) table buffer table′ buffer′ (planCost (problem q)) refl k (rw e at filled) (rw e at holds))
+    rw e (best q (accepted-valid s a) table buffer table′ buffer′ (planCost (problem q)) refl k (rw e at filled) (rw e at holds))
 
 -- the planning contract
-pub planning : {s table buffer table′ buffer′ : List ℕ} {answer : Answer} → Bytes s
+pub planning : {s table buffer table′ buffer′ : List ℕ} {answer : Answer}
     → answer ≡ answerOf (endingOn s table buffer) → LeavesTable (tableOf (endingOn s table buffer)) table table′
     → buffer′ ≡ bufferOf (endingOn s table buffer) buffer → Planning s table buffer table′ buffer′ answer
-planning {s} {table} {buffer} {table′} {buffer′} y e filled holds = record {
+planning {s} {table} {buffer} {table′} {buffer′} e filled holds = record {
   answer-is = e;
   leaves-table = filled;
   leaves-buffer = holds;
   changes = rw e (changes s table buffer table′ buffer′ filled holds);
-  best-order = rw e (best-order s table buffer table′ buffer′ y filled holds);
+  best-order = rw e (best-order s table buffer table′ buffer′ filled holds);
 }
 
 -- the same of the answer as the contract names it

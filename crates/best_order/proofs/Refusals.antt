@@ -13,7 +13,6 @@ use Rattle.refusal.specs.declared.Answer.the-variants.{Refused}
 use Rattle.refusal.specs.Reasons.{reasonNumber}
 use Rattle.refusal.specs.Answers.{answerNumber, refusalOf}
 use Rattle.refusal.proofs.Reasons.{reason-range, refusal-of}
-use Rattle.fields.proofs.Codecs.{Bytes}
 use Rattle.queue.specs.declared.Queue.{Queue}
 use Rattle.queue.specs.Reading.{readQueue}
 use Rattle.queue.specs.Refusals.{QueueRefusal}
@@ -77,16 +76,16 @@ module _ (s : List ℕ) (n room : ℕ) where
       go a (to-plan h c m e) = absurd (omega (arith, told _ (Table needed) e a))
 
   -- 17
-  pub order-exactly : Bytes s
-      → (answer ≡ Refused NoOrder) ↔ ((readQueue s .verdict ≡ Accepted) × (77 ≤ room) × (entries (problem q) ≤ n) × ((o : List ℕ) → IsOrder (problem q) o → Permitted (problem q) o → ⊥))
-  order-exactly y = (
+  pub order-exactly :
+      (answer ≡ Refused NoOrder) ↔ ((readQueue s .verdict ≡ Accepted) × (77 ≤ room) × (entries (problem q) ≤ n) × ((o : List ℕ) → IsOrder (problem q) o → Permitted (problem q) o → ⊥))
+  order-exactly = (
     (λ a. go a (way s n room)),
-    (λ h. ap answerOf (reached s n room (h .0) (h .1) (h .2)) ∙ rw (none-permitted q (accepted-valid s y (h .0)) .1 (h .3))),
+    (λ h. ap answerOf (reached s n room (h .0) (h .1) (h .2)) ∙ rw (none-permitted q (accepted-valid s (h .0)) .1 (h .3))),
   )
     where
       go : answer ≡ Refused NoOrder → Way s n room → (readQueue s .verdict ≡ Accepted) × (77 ≤ room) × (entries (problem q) ≤ n) × ((o : List ℕ) → IsOrder (problem q) o → Permitted (problem q) o → ⊥)
       go a (by-message r h e) = absurd (omega (arith, told _ NoOrder e a, refusal-of r, queue-of-message r (queue-refusal s r h)))
       go a (by-buffer h l e) = absurd (omega (arith, told _ NoOrder e a))
       go a (by-table h l m e) = absurd (omega (arith, told _ NoOrder e a))
-      go a (by-order h l m c e) = (h, l, m, none-permitted q (accepted-valid s y h) .0 c)
+      go a (by-order h l m c e) = (h, l, m, none-permitted q (accepted-valid s h) .0 c)
       go a (to-plan h c m e) = absurd (omega (arith, told _ NoOrder e a))

@@ -1,7 +1,7 @@
 -- The three ways of writing a message: a refused record, a short buffer, a written message.
 -- Assumes nothing.
 use Prim.Native.Nat.{ℕ, _<_, _≤_}
-use mathlib.Core.Path.{_≡_}
+use mathlib.Core.Path.{_≡_, refl, ap}
 use mathlib.Core.List.{List}
 use lib.ListN.{length}
 use lib.Seq.{sets}
@@ -13,6 +13,15 @@ use Rattle.refusal.specs.declared.Verdict.the-variants.{Accepted, Refused}
 use Rattle.refusal.specs.declared.Written.{Written}
 use Rattle.refusal.specs.declared.Written.the-variants.{Bytes, Refused as NotWritten}
 use Rattle.fields.specs.Messages.{writeAnswer, bufferAfter}
+
+-- records that get one verdict, and one message where it accepts, are written alike
+pub written-alike : (least : ℕ) (v w : Verdict) (message message′ : List ℕ) → v ≡ w → (w ≡ Accepted → message ≡ message′)
+    → (room : ℕ) (buffer : List ℕ) → (writeAnswer least v room message ≡ writeAnswer least w room message′)
+    × (bufferAfter (writeAnswer least v room message) message buffer ≡ bufferAfter (writeAnswer least w room message′) message′ buffer)
+written-alike least v Accepted message message′ e alike room buffer =
+    let same = alike refl in
+    (rw e (ap (writeAnswer least Accepted room) same), rw e (ap (λ (s : List ℕ). bufferAfter (writeAnswer least Accepted room s) s buffer) same))
+written-alike least v (Refused r) message message′ e alike room buffer = (rw e, rw e)
 
 -- a writer's answer, and the buffer after it
 abbrev pub Answered : ℕ → Verdict → List ℕ → List ℕ → Written → List ℕ → Type 0

@@ -5,18 +5,15 @@ use mathlib.Core.Path.{_≡_, refl, sym, ap, _∙_}
 use mathlib.Core.Bool.{Bool, true}
 use mathlib.Core.List.{List, [], _∷_, _++_, append-assoc}
 use native.Mathlib.Omega.{arith}
-use lib.ListN.{length, getD, drop, length-append}
+use lib.ListN.{length, drop, length-append}
 use lib.Seq.{drop-drop, drop-append-seam}
 use Rattle.refusal.specs.declared.Reason.{Reason}
 use Rattle.number.specs.Readers.{found, Reader}
 use Rattle.number.specs.Numbers.{number, encode}
 use Rattle.fields.proofs.RoundTrip.{number-written, number-read}
+use Rattle.fields.specs.Lists.{Bytes}
 use Rattle.fields.specs.Fields.{field}
 use Rattle.fields.proofs.Judged.{field-found, found-field}
-
--- a message's elements are bytes
-abbrev pub Bytes : List ℕ → Type 0
-Bytes s = (i : ℕ) → getD s i 0 < 256
 
 -- from position at to position n stand these bytes and no others
 pub record Stand (s : List ℕ) (at : ℕ) (bytes : List ℕ) (n : ℕ) : Type 0 where

@@ -8,6 +8,7 @@ pub mod Parts
 pub mod Seeking
 pub mod Pieces
 pub mod Answering
+pub mod Writers
 pub mod Openings
 pub mod Codecs
 pub mod Tables

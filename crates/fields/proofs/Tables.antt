@@ -42,6 +42,17 @@ module _ {A : Type 0} (f : ℕ → A) where
     | inr m ↦ tabulate-all P (suc i) n (h .1) k m (omega arith)
   ]
 
+  pub tabulate-same : (g : ℕ → A) (i n : ℕ) → tabulate f i n ≡ tabulate g i n → (k : ℕ) → i ≤ k → k < i + n → f k ≡ g k
+  unfolding tabulate
+  tabulate-same g i zero h k l u = absurd (omega arith)
+  tabulate-same g i (suc n) h k l u =
+      let here : f i ≡ g i = cc in
+      let rest : tabulate f (suc i) n ≡ tabulate g (suc i) n = cc in
+      elim (eq-or-lt-of-le l) [
+        | inl e ↦ rw (← e) here
+        | inr m ↦ tabulate-same g (suc i) n rest k m (omega arith)
+      ]
+
 -- the values at positions from, from + 1, .. of an array
 part-from : (vs : List ℕ) (from i n : ℕ) → from + i + n ≤ length vs → tabulate (λ j. getD vs (from + (j - 1)) 0) (suc i) n ≡ part (from + i) n vs
 unfolding tabulate

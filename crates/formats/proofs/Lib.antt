@@ -9,3 +9,4 @@ pub mod Repeated
 pub mod Ordered
 pub mod Whole
 pub mod Messages
+pub mod Readings

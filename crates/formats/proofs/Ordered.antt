@@ -45,6 +45,9 @@ module _ {Given : Type 0} (ok : List ℕ → ℕ → Bool) (why : Reason) (w : �
   abbrev pub ordered : Format (List ℕ) Given (m * w) (m * w + (3 - w)) (why ∷ [])
   ordered = rejudged plain (record {
     Ok = λ vs. (length vs ≡ n) × (allInOrder ok followedBy [] vs ≡ true);
+    Known = λ vs. (length vs ≡ n) × (allInOrder ok followedBy [] vs ≡ true);
+    known = λ z vs k. k;
+    finds = λ z s at vs end e. let r = plain .reads z s at vs end e in (plain-ok z vs .0 (r .0), r .1);
     Sized = λ vs. length vs ≡ n;
     judge = λ vs. check (allInOrder ok followedBy [] vs) why;
     ok-is = plain-ok;

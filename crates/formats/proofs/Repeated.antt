@@ -10,7 +10,7 @@ use Rattle.number.specs.Readers.{times}
 use Rattle.fields.specs.Fields.{within, all}
 use Rattle.fields.specs.Messages.{check}
 use Rattle.fields.specs.Orders.{inTurn}
-use Rattle.fields.proofs.Codecs.{All}
+use Rattle.fields.proofs.Codecs.{All, all-map}
 use Rattle.fields.proofs.Orders.{kept, times-in-order, all-in-order}
 use Rattle.formats.proofs.Verdicts.{in-turn-tested}
 use Rattle.formats.proofs.Formats.{Format}
@@ -28,9 +28,13 @@ module _ {A Given : Type 0} {wide far : ℕ} {whys : List Reason} (F : Format A 
   -- n times, at most m: for tables, where each entry has the same test
   abbrev pub alike : (n m : ℕ) → (Given → n ≤ m) → Format (List A) Given (m * wide) (m * wide + (far - wide)) whys
   alike n m few =
-      rejudged (retold (inTurns each kept n m few tt) (times n (F .read)) (flatMap (F .write)) (times-in-order (F .read) n) (run-flat each kept (F .write) (λ _ a. refl) tt))
-      (record {
+      let flat = run-flat each kept (F .write) (λ _ a. refl) tt in
+      let run = retold (inTurns each kept n m few tt) (times n (F .read)) (flatMap (F .write)) (times-in-order (F .read) n) flat in
+      rejudged run (record {
         Ok = λ xs. (length xs ≡ n) × All (F .Ok) xs;
+        Known = λ xs. (length xs ≡ n) × All (F .Known) xs;
+        known = λ z xs k. (k .0, all-map (F .Ok) (F .Known) xs (F .known z) (k .1));
+        finds = λ z s at xs end e. let r = run .reads z s at xs end e in ((r .0 .0, each-all kept tt (F .Known) xs .0 (r .0 .1)), r .1);
         Sized = λ xs. (length xs ≡ n) × All (F .Sized) xs;
         judge = λ xs. check (all ok xs) why;
         ok-is = λ z xs. (λ k. (k .0, each-all kept tt (F .Ok) xs .0 (k .1)), λ k. (k .0, each-all kept tt (F .Ok) xs .1 (k .1)));

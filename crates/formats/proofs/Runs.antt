@@ -12,14 +12,15 @@ use Rattle.refusal.specs.declared.Verdict.{Verdict}
 use Rattle.refusal.specs.declared.Verdict.the-variants.{Accepted, Refused}
 use Rattle.number.specs.Readers.{found, refused, Reader, andThen}
 use Rattle.number.proofs.Steps.{went-on, found-value, found-next}
-use Rattle.fields.proofs.Codecs.{Bytes, Stand, All, stand-none, stand-append, past}
+use Rattle.fields.specs.Lists.{Bytes}
+use Rattle.fields.proofs.Codecs.{Stand, All, stand-none, stand-append, past}
 use Rattle.fields.proofs.Local.{and-same}
 use Rattle.fields.proofs.Refusing.{Gives, gives-found, gives-then}
 use Rattle.fields.specs.Messages.{_before_}
 use Rattle.fields.specs.Orders.{inOrder, inTurn}
 use Rattle.formats.proofs.Verdicts.{not-accepted, before-accepts}
 use Rattle.formats.proofs.Refusals.{Arises}
-use Rattle.formats.proofs.Formats.{Format, ends}
+use Rattle.formats.proofs.Formats.{Format}
 
 -- something holds of each thing in a list, after what the earlier ones left
 abbrev pub InTurn : {S A : Type 0} → (S → A → S) → (S → A → Type 0) → S → List A → Type 0
@@ -44,6 +45,9 @@ module _ {S A Given : Type 0} {wide far : ℕ} {whys : List Reason} (one : S →
   abbrev pub RunOk : S → List A → Type 0
   RunOk = InTurn step (λ state. one state .Ok)
 
+  abbrev pub RunKnown : S → List A → Type 0
+  RunKnown = InTurn step (λ state. one state .Known)
+
   abbrev pub RunSized : S → List A → Type 0
   RunSized = InTurn step (λ state. one state .Sized)
 
@@ -59,20 +63,36 @@ module _ {S A Given : Type 0} {wide far : ℕ} {whys : List Reason} (one : S →
   abbrev pub run : ℕ → S → Reader (List A)
   run = inOrder (λ state. one state .read) step
 
+  -- n found, in at most the bytes of m
+  abbrev pub RunFound : (n m : ℕ) → S → List ℕ → ℕ → List A → ℕ → Type 0
+  RunFound n m state s at xs end =
+      ((length xs ≡ n) × RunKnown state xs) × (end ≤ at + m * wide)
+      × (Bytes s → Stand s at (runBytes state xs) end × ((length xs ≡ n) × RunOk state xs))
+
   module _ (z : Given) where
-    pub run-reads : (n : ℕ) (state : S) (s : List ℕ) (at : ℕ) (xs : List A) (end : ℕ) → Bytes s → run n state s at ≡ found xs end
-        → Stand s at (runBytes state xs) end × ((length xs ≡ n) × RunOk state xs)
+    pub run-known : (state : S) (xs : List A) → RunOk state xs → RunKnown state xs
+    run-known state [] k = tt
+    run-known state (a ∷ more) k = (one state .known z a (k .0), run-known (step state a) more (k .1))
+
+    pub run-reads : (n : ℕ) (state : S) (s : List ℕ) (at : ℕ) (xs : List A) (end : ℕ) → run n state s at ≡ found xs end
+        → RunFound n n state s at xs end
     unfolding inOrder
-    run-reads zero state s at xs end y e =
-        subst₂ (λ (l : List A) (m : ℕ). Stand s at (runBytes state l) m × ((length l ≡ 0) × RunOk state l)) (found-value [] xs at end e) (found-next [] xs at end e)
-        (stand-none s at, (refl, tt))
-    run-reads (suc n) state s at xs end y e =
+    run-reads zero state s at xs end e =
+        subst₂ (RunFound 0 0 state s at) (found-value [] xs at end e) (found-next [] xs at end e)
+        ((refl, tt), omega arith, λ y. (stand-none s at, (refl, tt)))
+    run-reads (suc n) state s at xs end e =
         let (a, i, f, p) = went-on (one state .read s at) (λ a m. andThen (run n (step state a) s m) (λ more l. found (a ∷ more) l)) xs end e in
         let (more, l, g, q) = went-on (run n (step state a) s i) (λ more l. found (a ∷ more) l) xs end p in
-        let x = one state .reads z s at a i y f in
-        let u = run-reads n (step state a) s i more l y g in
-        subst₂ (λ (k : List A) (m : ℕ). Stand s at (runBytes state k) m × ((length k ≡ suc n) × RunOk state k)) (found-value (a ∷ more) xs l end q) (found-next (a ∷ more) xs l end q)
-        (stand-append s at (one state .write a) i (runBytes (step state a) more) l (x .0) (u .0), (ap suc (u .1 .0), (x .1, u .1 .1)))
+        let (known, near, stands) = one state .reads z s at a i f in
+        let (known-more, near-more, stands-more) = run-reads n (step state a) s i more l g in
+        subst₂ (RunFound (suc n) (suc n) state s at) (found-value (a ∷ more) xs l end q) (found-next (a ∷ more) xs l end q) (
+          (ap suc (known-more .0), (known, known-more .1)),
+          rw suc-mul (omega arith),
+          λ y.
+              let (x, ok) = stands y in
+              let (u, oks) = stands-more y in
+              (stand-append s at (one state .write a) i (runBytes (step state a) more) l x u, (ap suc (oks .0), (ok, oks .1))),
+        )
 
     pub run-writes : (n : ℕ) (state : S) (s : List ℕ) (at : ℕ) (xs : List A) (rest : List ℕ) → (length xs ≡ n) × RunOk state xs
         → drop at s ≡ runBytes state xs ++ rest → run n state s at ≡ found xs (at + length (runBytes state xs))
@@ -94,14 +114,14 @@ module _ {S A Given : Type 0} {wide far : ℕ} {whys : List Reason} (one : S →
     run-short state [] k = omega arith
     run-short state (a ∷ more) k = rw (length-append, suc-mul) (omega (arith, one state .short z a (k .0), run-short (step state a) more (k .1)))
 
-    run-same : (n : ℕ) (state : S) (s : List ℕ) (at m : ℕ) → Bytes s → at + n * wide + far ≤ m + wide → run n state (take m s) at ≡ run n state s at
+    run-same : (n : ℕ) (state : S) (s : List ℕ) (at m : ℕ) → at + n * wide + far ≤ m + wide → run n state (take m s) at ≡ run n state s at
     unfolding inOrder
-    run-same zero state s at m y h = refl
-    run-same (suc n) state s at m y h =
+    run-same zero state s at m h = refl
+    run-same (suc n) state s at m h =
         let k : at + (n * wide + wide) + far ≤ m + wide = rw (suc-mul n wide) at h in
-        and-same (one state .read (take m s) at) (one state .read s at) _ _ (one state .same z s at m y (omega arith))
+        and-same (one state .read (take m s) at) (one state .read s at) _ _ (one state .same z s at m (omega arith))
         (λ a i e. and-same (run n (step state a) (take m s) i) (run n (step state a) s i) _ _
-        (run-same n (step state a) s i m y (omega (arith, ends (one state) z s at a i y e))) (λ more l f. refl))
+        (run-same n (step state a) s i m (omega (arith, one state .reads z s at a i e .1))) (λ more l f. refl))
 
     pub run-accepts : (state : S) (xs : List A) → RunSized state xs → (inTurn (λ state. one state .judge) step state xs ≡ Accepted) ↔ RunOk state xs
     unfolding inTurn
@@ -146,8 +166,13 @@ module _ {S A Given : Type 0} {wide far : ℕ} {whys : List Reason} (one : S →
     pub run-most : (xs : List A) → (length xs ≡ n) × RunOk state xs → length (runBytes state xs) ≤ m * wide
     run-most xs k = omega (arith, run-short z state xs (k .1), k .0, mul-le-mul {n₁ = length xs} {m₁ = wide} {n₂ = m} {m₂ = wide} (omega (arith, k .0)) (omega arith))
 
-    pub run-near : (s : List ℕ) (at i : ℕ) → Bytes s → at + (m * wide + (far - wide)) ≤ i → run n state (take i s) at ≡ run n state s at
-    run-near s at i y h = run-same z n state s at i y (omega (arith, mul-le-mul {n₁ = n} {m₁ = wide} {n₂ = m} {m₂ = wide} few (omega arith)))
+    pub run-found : (s : List ℕ) (at : ℕ) (xs : List A) (end : ℕ) → run n state s at ≡ found xs end → RunFound n m state s at xs end
+    run-found s at xs end e =
+        let (known, near, stands) = run-reads z n state s at xs end e in
+        (known, omega (arith, mul-le-mul {n₁ = n} {m₁ = wide} {n₂ = m} {m₂ = wide} few (omega arith)), stands)
+
+    pub run-near : (s : List ℕ) (at i : ℕ) → at + (m * wide + (far - wide)) ≤ i → run n state (take i s) at ≡ run n state s at
+    run-near s at i h = run-same z n state s at i (omega (arith, mul-le-mul {n₁ = n} {m₁ = wide} {n₂ = m} {m₂ = wide} few (omega arith)))
 
   -- n times, at most m: for a run in which each part depends on the earlier ones
   abbrev pub inTurns : (n m : ℕ) → (Given → n ≤ m) → S → Format (List A) Given (m * wide) (m * wide + (far - wide)) whys
@@ -155,10 +180,12 @@ module _ {S A Given : Type 0} {wide far : ℕ} {whys : List Reason} (one : S →
     read = run n state;
     write = runBytes state;
     Ok = λ xs. (length xs ≡ n) × RunOk state xs;
+    Known = λ xs. (length xs ≡ n) × RunKnown state xs;
+    known = λ z xs k. (k .0, run-known z state xs (k .1));
     Sized = λ xs. (length xs ≡ n) × RunSized state xs;
     Small = RunSmall state;
     judge = inTurn (λ state. one state .judge) step state;
-    reads = λ z. run-reads z n state;
+    reads = λ z. run-found n m (few z) z state;
     writes = λ z. run-writes z n state;
     short = λ z. run-most n m (few z) z state;
     same = λ z. run-near n m (few z) z state;

@@ -2,7 +2,7 @@
 -- Assumes nothing.
 use Prim.Native.Nat.{ℕ, _+_, _<_, _≤_}
 use mathlib.Core.Path.{_≡_, refl, sym, ap, _∙_}
-use mathlib.Core.Bool.{Bool, cond}
+use mathlib.Core.Bool.{Bool, true, cond}
 use mathlib.Core.Logic.{inl, inr}
 use mathlib.Core.List.{List, [], _∷_, _++_, append-nil}
 use native.Mathlib.Omega.{arith}
@@ -16,12 +16,12 @@ use Rattle.refusal.specs.declared.Verdict.the-variants.{Refused}
 use Rattle.number.specs.Readers.{found, refused, Reader, andThen, _>>=_, _>>_, give}
 use Rattle.number.proofs.Steps.{went-on, passed, found-value, found-next}
 use Rattle.fields.specs.Messages.{opens, opening, end}
-use Rattle.fields.proofs.Codecs.{Bytes}
+use Rattle.fields.specs.Lists.{Bytes}
 use Rattle.fields.proofs.Local.{and-same, opens-same, end-same}
 use Rattle.fields.proofs.Refusing.{Gives, gives-found, gives-judged, gives-then}
 use Rattle.fields.proofs.Openings.{opens-both, opens-bytes}
 use Rattle.formats.proofs.Refusals.{Arises}
-use Rattle.formats.proofs.Formats.{Format, ends}
+use Rattle.formats.proofs.Formats.{Format}
 
 module _ {R A : Type 0} {wide far : ℕ} {whys : List Reason} (a b : ℕ) (F : Format A (Unit {0}) wide far whys) (make : A → R) where
   abbrev pub whole : Reader R
@@ -44,27 +44,33 @@ module _ {R A : Type 0} {wide far : ℕ} {whys : List Reason} (a b : ℕ) (F : F
       let s = (a ∷ b ∷ []) ++ F .write parts in
       rw (← opens-both a b s (omega arith) refl refl, F .refuses tt s 2 parts [] r n k (sym (append-nil (F .write parts))) j)
 
-  -- what was found: parts that are Ok, written between the two ends
-  pub whole-read : (s : List ℕ) → Bytes s → (q : R) (n : ℕ) → whole s 0 ≡ found q n → (parts : A) × F .Ok parts × (make parts ≡ q) × ((a ∷ b ∷ []) ++ F .write parts ≡ s)
-  whole-read s y q n e =
+  -- what was found: the parts between the two ends
+  pub whole-found : (s : List ℕ) (q : R) (n : ℕ) → whole s 0 ≡ found q n
+      → (parts : A) × (make parts ≡ q) × (opens a b s ≡ true) × (F .read s 2 ≡ found parts (length s))
+  whole-found s q n e =
       let (u, i, e₀, p₀) = went-on (opening a b s 0) _ q n e in
       let (parts, j, e₁, p₁) = went-on (F .read s i) _ q n p₀ in
       let (v, k, e₂, p₂) = went-on (end s j) _ q n p₁ in
       let o = passed (opens a b s) (found tt 2) Opening u i e₀ in
       let two : 2 ≡ i = found-next tt u 2 i (o .1) in
       let last = eqb-true j (length s) (passed (eqb j (length s)) (found tt j) LeftOver v k e₂ .0) in
-      let r = F .reads tt s i parts j y e₁ in
-      let none : drop j s ≡ [] = ap (λ (k : ℕ). drop k s) last ∙ drop-length s in
-      let rest : drop 2 s ≡ F .write parts = ap (λ (k : ℕ). drop k s) two ∙ r .0 .here ∙ ap (λ (l : List ℕ). F .write parts ++ l) none ∙ append-nil (F .write parts) in
-      (parts, r .1, found-value (make parts) q k n p₂, sym (opens-bytes a b s (o .0) ∙ ap (λ (l : List ℕ). (a ∷ b ∷ []) ++ l) rest))
+      (parts, found-value (make parts) q k n p₂, o .0, ap (F .read s) two ∙ e₁ ∙ ap (found parts) last)
+
+  -- .. in bytes they are written there
+  pub whole-bytes : (s : List ℕ) → Bytes s → (parts : A) → opens a b s ≡ true → F .read s 2 ≡ found parts (length s)
+      → F .Ok parts × ((a ∷ b ∷ []) ++ F .write parts ≡ s)
+  whole-bytes s y parts o e =
+      let r = F .reads tt s 2 parts (length s) e .2 y in
+      let rest : drop 2 s ≡ F .write parts = r .0 .here ∙ ap (λ (l : List ℕ). F .write parts ++ l) (drop-length s) ∙ append-nil (F .write parts) in
+      (r .1, sym (opens-bytes a b s o ∙ ap (λ (l : List ℕ). (a ∷ b ∷ []) ++ l) rest))
 
   -- its first m bytes decide
-  pub whole-same : (m : ℕ) → 2 + far ≤ m → 2 + wide < m → (s : List ℕ) → Bytes s → whole (take m s) 0 ≡ whole s 0
-  whole-same m f w s y =
+  pub whole-same : (m : ℕ) → 2 + far ≤ m → 2 + wide < m → (s : List ℕ) → whole (take m s) 0 ≡ whole s 0
+  whole-same m f w s =
       and-same (opening a b (take m s) 0) (opening a b s 0) _ _ (ap (λ (t : Bool). cond t (found tt 2) (refused Opening)) (opens-same a b s m (omega arith)))
       λ u i e₀. let two : 2 ≡ i = found-next tt u 2 i (passed (opens a b s) (found tt 2) Opening u i e₀ .1) in
-      and-same (F .read (take m s) i) (F .read s i) _ _ (F .same tt s i m y (omega arith))
-      λ parts j e₁. ap (λ (t : Bool). andThen (cond t (found tt j) (refused LeftOver)) (λ _ k. found (make parts) k)) (end-same s j m (omega (arith, ends F tt s i parts j y e₁)))
+      and-same (F .read (take m s) i) (F .read s i) _ _ (F .same tt s i m (omega arith))
+      λ parts j e₁. ap (λ (t : Bool). andThen (cond t (found tt j) (refused LeftOver)) (λ _ k. found (make parts) k)) (end-same s j m (omega (arith, F .reads tt s i parts j e₁ .1)))
 
   -- its refusals
   pub whole-gives : (s : List ℕ) → Gives (Arises (Opening ∷ LeftOver ∷ whys)) (whole s 0)

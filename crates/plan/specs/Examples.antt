@@ -1,10 +1,12 @@
 -- The plans of 01's cases A and B, read and written; messages for each of the plan reader's refusals; records for the writer's.
-use Prim.Native.Nat.{ℕ, _^_}
+use Prim.Native.Nat.{ℕ, _*_, _^_}
 use mathlib.Core.Path.{_≡_, refl}
-use mathlib.Core.List.{List, [], _∷_, flatMap}
+use mathlib.Core.List.{List, [], _∷_, _++_, flatMap}
+use lib.ListN.{replicate}
 use Rattle.refusal.specs.declared.Reason.the-variants.{Opening, Ends, Groups, Edition, Goal, Jobs, Job, LeftOver, Buffer}
 use Rattle.refusal.specs.declared.Verdict.the-variants.{Accepted, Refused}
 use Rattle.refusal.specs.declared.Written.the-variants.{Bytes, Refused as NotWritten}
+use Rattle.refusal.specs.Answers.{writtenNumber}
 use Rattle.number.specs.Readers.{refused}
 use Rattle.number.specs.Numbers.{groupsAt, groups, encode}
 use Rattle.fields.specs.Lists.{tabulate, standsIn}
@@ -12,7 +14,7 @@ use Rattle.fields.specs.Messages.{opens}
 use Rattle.fields.specs.Orders.{inOrder, allInOrder}
 use Rattle.plan.specs.declared.Plan.{Plan}
 use Rattle.plan.specs.Reading.{plan, planOf, asReading, readPlan}
-use Rattle.plan.specs.Writing.{message, judge, writePlan}
+use Rattle.plan.specs.Writing.{message, judge, writePlan, writtenPlan}
 
 -- case A
 abbrev bytesA : List ℕ
@@ -66,10 +68,19 @@ Examples =
     × (writePlan planA 77 ≡ Bytes 10)
     × (writePlan planA 76 ≡ NotWritten Buffer)
     × (writePlan (planOf 1 70 7 2 (1 ∷ 1 ∷ [])) 76 ≡ NotWritten Job)
+    -- the answers' numbers; a refused record leaves every byte, a written one those past its message
+    × (writtenNumber (writePlan planA 77) ≡ 256 * 10)
+    × (writtenNumber (writePlan (planOf 1 70 7 2 (1 ∷ 1 ∷ [])) 77) ≡ 18)
+    × (writtenPlan (planOf 1 70 7 2 (1 ∷ 1 ∷ [])) (replicate 77 0xAA) ≡ replicate 77 0xAA)
+    × (writtenPlan planA (replicate 77 0xAA) ≡ bytesA ++ replicate 67 0xAA)
 
 pub examples : Examples
-unfolding groupsAt groups encode opens tabulate flatMap standsIn inOrder allInOrder plan readPlan message judge writePlan
+unfolding groupsAt groups encode opens tabulate flatMap standsIn inOrder allInOrder plan readPlan message judge writePlan writtenPlan
 examples = (
+  refl,
+  refl,
+  refl,
+  refl,
   refl,
   refl,
   refl,

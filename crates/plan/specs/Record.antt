@@ -29,3 +29,11 @@ module _ (p : Plan) where
     pub jobs : p .jobs ≤ 60
     pub in-range : (place : ℕ) → 1 ≤ place → place ≤ p .jobs → (1 ≤ job place) × (job place ≤ p .jobs)
     pub once : (place later : ℕ) → 1 ≤ place → place < later → later ≤ p .jobs → job place ≡ job later → ⊥
+
+-- "round trips compare up to N and T": a record p is the same as q
+pub record Same (p q : Plan) : Type 0 where
+  pub goal : p .goal ≡ q .goal
+  pub cost : p .cost ≡ q .cost
+  pub states : p .«feasible_states» ≡ q .«feasible_states»
+  pub jobs : p .jobs ≡ q .jobs
+  pub order : (place : ℕ) → 1 ≤ place → place ≤ q .jobs → job p place ≡ job q place

@@ -46,6 +46,9 @@ longNumber =
     let F = anyNumber 6 (omega arith) in
     rejudged F (record {
       Ok = λ v. v < 2 ^ 42;
+      Known = F .Known;
+      known = λ z v k. tt;
+      finds = λ z s at v n e. let r = F .reads z s at v n e in (r .0, r .1);
       Sized = F .Sized;
       judge = λ v. check (within 0 (2 ^ 42 - 1) v) Groups;
       ok-is = λ z v. (λ k. k, λ k. k);
@@ -94,7 +97,7 @@ judge-is : (p : Plan) → judge p ≡ planFormat .judge (view p)
 unfolding judge
 judge-is p = refl
 
-holds : (p : Parts) → planFormat .Ok p → view (make p) ≡ p
+holds : (p : Parts) → planFormat .Known p → view (make p) ≡ p
 holds p k =
     let one : 1 ≡ p .0 = omega (arith, k .0) in
     let jobs = held (p .1 .0) (p .1 .1 .0) (p .1 .1 .1 .0) (p .1 .1 .1 .1 .0) (p .1 .1 .1 .1 .1) (k .1 .1 .1 .1 .1 .0) (k .1 .1 .1 .1 .0 .1) in
@@ -108,7 +111,7 @@ pub record Fits (p : Plan) : Type 0 where
   pub jobs : p .jobs < 2 ^ 21
   pub order : (place : ℕ) → 1 ≤ place → place ≤ p .jobs → job p place < 2 ^ 21
 
-tied : Tied 0x51 0x50 planFormat make view plan message Valid Fits judge cleared
+tied : Tied 0x51 0x50 planFormat make view plan message Valid (λ p. planFormat .Known (view p)) Fits judge cleared
 tied = record {
   read-is = read-is;
   message-is = message-is;
@@ -116,6 +119,7 @@ tied = record {
     λ k. bounded-valid p (record { goals = k .1 .0; costs = k .1 .1 .0; counts = k .1 .1 .1 .0; few = k .1 .1 .1 .1 .0 .1; each = k .1 .1 .1 .1 .1 .1 }),
     λ v. let b = valid-bounded p v in ((omega arith, omega arith), (b .goals, (b .costs, (b .counts, ((omega arith, b .few), (job-list-length p, b .each)))))),
   );
+  known-is = λ p k. k;
   fits-is = λ p f. (omega arith, (f .goal, (f .cost, (f .states, (f .jobs, each-all followedBy [] (λ j. j < 2 ^ 21) (jobList p) .1 (all-tabulate (job p) _ 1 (p .jobs) (λ k a b. f .order k a (omega arith))))))));
   judge-is = judge-is;
   cleared-is = λ p. refl;
@@ -127,5 +131,5 @@ abbrev pub planRefusals : List Reason
 planRefusals = Opening ∷ LeftOver ∷ Edition ∷ Goal ∷ Jobs ∷ Job ∷ []
 
 -- at most 77 bytes, of which the first 79 decide
-pub plan-message : Message plan message Valid Fits judge cleared 77 79 planRefusals
+pub plan-message : Message plan message Valid (λ p. planFormat .Known (view p)) Fits judge cleared 77 79 planRefusals
 plan-message = laws tied 79 (omega arith) (omega arith)

@@ -1,15 +1,15 @@
 -- The jobs of a record as a list, and the record that holds a list.
 -- Assumes nothing.
 use Prim.Native.Nat.{ℕ, _+_, _-_, _<_, _≤_}
-use mathlib.Core.Path.{_≡_, sym, ap, _∙_}
+use mathlib.Core.Path.{_≡_, refl, ap, _∙_}
 use mathlib.Core.List.{List}
 use native.Mathlib.Omega.{arith}
 use lib.ListN.{length, getD}
 use Rattle.fields.specs.Fields.{part}
-use Rattle.fields.proofs.Tables.{length-tabulate, tabulate-at, list-part}
+use Rattle.fields.proofs.Tables.{length-tabulate, tabulate-at, tabulate-same, list-part}
 use Rattle.fields.proofs.Arrays.{array-back, filled-past}
 use Rattle.plan.specs.declared.Plan.{Plan}
-use Rattle.plan.specs.Record.{job, jobList}
+use Rattle.plan.specs.Record.{job, jobList, Same}
 use Rattle.plan.specs.Reading.{planOf, cleared}
 use Rattle.plan.specs.Writing.{message}
 
@@ -36,9 +36,14 @@ module _ (p : Plan) (few : p .jobs ≤ 60) where
   cleared-list = held (p .goal) (p .cost) (p .«feasible_states») (p .jobs) (jobList p) (job-list-length p) few
 
   -- a record and what reading its message gives agree up to T ..
-  pub cleared-agrees : (place : ℕ) → 1 ≤ place → place ≤ p .jobs → job (cleared p) place ≡ job p place
-  cleared-agrees place l u =
-      sym (job-listed (cleared p) place l u) ∙ ap (λ (js : List ℕ). getD js (place - 1) 0) cleared-list ∙ job-listed p place l u
+  pub cleared-same : Same (cleared p) p
+  cleared-same = record {
+    goal = refl;
+    cost = refl;
+    states = refl;
+    jobs = refl;
+    order = λ place l u. tabulate-same (job (cleared p)) (job p) 1 (p .jobs) cleared-list place l (omega arith);
+  }
 
   -- .. and the latter holds 0 past T
   pub cleared-past : (place : ℕ) → p .jobs < place → job (cleared p) place ≡ 0

@@ -1,5 +1,5 @@
 pub mod JobLists
 pub mod Judging
 pub mod Format
-pub mod Refusals
 pub mod Theorems
+pub mod Refusals

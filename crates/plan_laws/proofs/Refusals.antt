@@ -7,23 +7,18 @@ use native.Mathlib.Omega.{arith}
 use Rattle.refusal.specs.declared.Reason.{Reason}
 use Rattle.refusal.specs.declared.Verdict.the-variants.{Refused}
 use Rattle.refusal.proofs.Reasons.{OfMessage}
-use Rattle.number.specs.Readers.{Found, found, refused}
-use Rattle.plan.specs.declared.Plan.{Plan}
-use Rattle.plan.specs.Reading.{plan, asReading, readPlan}
+use Rattle.plan.specs.Reading.{readPlan}
 use Rattle.plan.specs.Refusals.{PlanRefusal, on-opening, on-ends, on-groups, on-edition, on-goal, on-jobs, on-job, on-left-over}
 use Rattle.formats.proofs.Refusals.{arises-in}
+use Rattle.formats.proofs.Readings.{refusal-arises}
 use Rattle.plan_laws.proofs.Format.{planRefusals, plan-message}
-
-refused-as : (f : Found Plan) (r : Reason) → asReading f .verdict ≡ Refused r → f ≡ refused r
-refused-as (found p n) r e = let z : _≡_ {A = ℕ} 0 1 = cc in absurd (omega arith)
-refused-as (refused q) r e = cc
+use Rattle.plan_laws.proofs.Theorems.{reads}
 
 -- the refusals of plan messages are among 1, 2, 3, 4, 6, 12, 18, 14 ..
 pub plan-refusal : (s : List ℕ) (r : Reason) → readPlan s .verdict ≡ Refused r → PlanRefusal r
-unfolding readPlan
 plan-refusal s r e =
     arises-in PlanRefusal on-ends on-groups planRefusals (on-opening, (on-left-over, (on-edition, (on-goal, (on-jobs, (on-job, tt)))))) r
-    (plan-message .gives s r (refused-as (plan s 0) r e))
+    (refusal-arises plan-message reads s r e)
 
 -- .. and none of them is planning's own
 pub plan-of-message : (r : Reason) → PlanRefusal r → OfMessage r

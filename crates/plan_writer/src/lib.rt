@@ -9,6 +9,7 @@ ghost use lib.ListN.{length, getD, take};
 ghost use lib.Seq.{sets};
 ghost use Rattle.plan.specs.Record.{fresh};
 ghost use Rattle.plan.specs.Writing.{message, allFresh, judge, writePlan, writtenPlan};
+ghost use Rattle.plan.specs.Writer.{WritesPlan};
 ghost use Rattle.plan_writer.specs.Fronts.{frontBytes};
 
 // Whether the job behind the first `places` is from 1 to `jobs` and stands at none of them.
@@ -90,6 +91,7 @@ fn write_message(buffer: &mut [u8], plan: Plan) -> usize
 pub fn write_plan(buffer: &mut [u8], plan: Plan) -> Written
     ensures { λ r. ⌜ r ≡ writePlan plan (length (now (buffer .entry))) ⌝ }
     ensures { λ _. ⌜ now (buffer .exit) ≡ writtenPlan plan (now (buffer .entry)) ⌝ }
+    ensures { λ r. ⌜ WritesPlan plan (now (buffer .entry)) (now (buffer .exit)) r ⌝ }
 {
     match judge_plan(plan) {
         Verdict::Refused(why) => Written::Refused(why),

@@ -1,11 +1,12 @@
 -- The queue messages of 01's cases A, G and I, read and written; a message for each of the reader's refusals; records for the writer's.
-use Prim.Native.Nat.{ℕ, _+_}
+use Prim.Native.Nat.{ℕ, _+_, _*_}
 use mathlib.Core.List.{List, [], _∷_, _++_, flatMap}
 use mathlib.Core.Path.{_≡_, refl}
-use lib.ListN.{drop, take}
+use lib.ListN.{drop, take, replicate}
 use Rattle.refusal.specs.declared.Reason.the-variants.{Opening, Ends, Groups, Edition, Kinds, Goal, Shift, Start, Gap, Pupils, Places, Jobs, JobKind, LeftOver, Buffer}
 use Rattle.refusal.specs.declared.Verdict.the-variants.{Accepted, Refused}
 use Rattle.refusal.specs.declared.Written.the-variants.{Bytes, Refused as NotWritten}
+use Rattle.refusal.specs.Answers.{writtenNumber}
 use Rattle.number.specs.Readers.{refused, times}
 use Rattle.number.specs.Numbers.{groupsAt, groups, encode}
 use Rattle.fields.specs.Fields.{all}
@@ -13,7 +14,7 @@ use Rattle.fields.specs.Lists.{tabulate}
 use Rattle.fields.specs.Messages.{opens}
 use Rattle.queue.specs.declared.Queue.{Queue}
 use Rattle.queue.specs.Reading.{placed, settings, headOf, tables, head, withJobs, jobs, queue, accepted, asReading, readQueue}
-use Rattle.queue.specs.Writing.{headBytes, jobBytes, message, judgeSettings, judgeTables, judgeHead, judgeJobs, judge, writeQueue}
+use Rattle.queue.specs.Writing.{headBytes, jobBytes, message, judgeSettings, judgeTables, judgeHead, judgeJobs, judge, writeQueue, writtenQueue}
 
 -- case A's bytes
 abbrev bytesA : List ℕ
@@ -75,6 +76,11 @@ Examples =
     × (writeQueue (queueOf 2 1 3 (1 ∷ 2 ∷ 1 ∷ [])) 178 ≡ Bytes 23)
     × (writeQueue (queueOf 2 1 3 (1 ∷ 2 ∷ 1 ∷ [])) 177 ≡ NotWritten Buffer)
     × (writeQueue (queueOf 2 7 3 (1 ∷ 2 ∷ 1 ∷ [])) 0 ≡ NotWritten Goal)
+    -- the answers' numbers; a refused record leaves every byte, a written one those past its message
+    × (writtenNumber (writeQueue (queueOf 2 1 3 (1 ∷ 2 ∷ 1 ∷ [])) 178) ≡ 256 * 23)
+    × (writtenNumber (writeQueue (queueOf 2 7 3 (1 ∷ 2 ∷ 1 ∷ [])) 178) ≡ 6)
+    × (writtenQueue (queueOf 2 7 3 (1 ∷ 2 ∷ 1 ∷ [])) (replicate 178 0xAA) ≡ replicate 178 0xAA)
+    × (writtenQueue (queueOf 2 1 3 (1 ∷ 2 ∷ 1 ∷ [])) (replicate 178 0xAA) ≡ bytesA ++ replicate 155 0xAA)
     -- a record at its bounds, then each bound passed by one, 5 to 13
     × (judge (recordOf 60 2 65535 1000 (60, 60) (1 ∷ 2 ∷ 2 ∷ [])) ≡ Accepted)
     × (judge (queueOf 6 1 3 (1 ∷ 2 ∷ 1 ∷ [])) ≡ Refused Kinds)
@@ -90,5 +96,5 @@ Examples =
     × (judge (recordOf 1 0 10 3 (1, 60) (1 ∷ 2 ∷ 0 ∷ [])) ≡ Refused JobKind)
 
 pub examples : Examples
-unfolding groupsAt groups encode opens times tabulate flatMap all placed settings tables head jobs queue readQueue headBytes jobBytes message judgeSettings judgeTables judgeHead judgeJobs judge writeQueue
-examples = (refl, refl, refl, refl, refl, refl, refl, refl, refl, refl, refl, refl, refl, refl, refl, refl, refl, refl, refl, refl, refl, refl, refl, refl, refl, refl, refl, refl, refl, refl, refl, refl, refl, refl, refl, refl, refl, refl)
+unfolding groupsAt groups encode opens times tabulate flatMap all placed settings tables head jobs queue readQueue headBytes jobBytes message judgeSettings judgeTables judgeHead judgeJobs judge writeQueue writtenQueue
+examples = (refl, refl, refl, refl, refl, refl, refl, refl, refl, refl, refl, refl, refl, refl, refl, refl, refl, refl, refl, refl, refl, refl, refl, refl, refl, refl, refl, refl, refl, refl, refl, refl, refl, refl, refl, refl, refl, refl, refl, refl, refl, refl)

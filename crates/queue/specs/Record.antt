@@ -2,6 +2,7 @@
 use Prim.Native.Nat.{ℕ, _+_, _-_, _^_, _<_, _≤_}
 use mathlib.Core.Bool.{Bool, _&&_}
 use mathlib.Core.List.{List}
+use mathlib.Core.Path.{_≡_}
 use lib.Dec.{leb}
 use lib.ListN.{getD}
 use Rattle.fields.specs.Lists.{tabulate}
@@ -72,3 +73,15 @@ module _ (q : Queue) where
     pub places : (j : ℕ) → 1 ≤ j → j ≤ q .kinds → (firstPlace j < 2 ^ 21) × (lastPlace j < 2 ^ 21)
     pub jobs : q .jobs < 2 ^ 21
     pub kinds-of-jobs : (i : ℕ) → 1 ≤ i → i ≤ q .jobs → kind i < 2 ^ 21
+
+-- "round trips compare up to N and T": a record p is the same as q
+pub record Same (p q : Queue) : Type 0 where
+  pub kinds : p .kinds ≡ q .kinds
+  pub goal : p .goal ≡ q .goal
+  pub shift : p .«max_shift» ≡ q .«max_shift»
+  pub start : p .start ≡ q .start
+  pub gaps : (i j : ℕ) → i ≤ q .kinds → 1 ≤ j → j ≤ q .kinds → gap p i j ≡ gap q i j
+  pub weights : (j : ℕ) → 1 ≤ j → j ≤ q .kinds → weight p j ≡ weight q j
+  pub places : (j : ℕ) → 1 ≤ j → j ≤ q .kinds → (firstPlace p j ≡ firstPlace q j) × (lastPlace p j ≡ lastPlace q j)
+  pub jobs : p .jobs ≡ q .jobs
+  pub kinds-of-jobs : (i : ℕ) → 1 ≤ i → i ≤ q .jobs → kind p i ≡ kind q i

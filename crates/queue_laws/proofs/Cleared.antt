@@ -4,20 +4,22 @@ use Prim.Native.Nat.{ℕ, _<_, _≤_}
 use mathlib.Core.Path.{_≡_, refl, sym, ap, _∙_}
 use mathlib.Core.Logic.{inl, inr}
 use mathlib.Core.List.{List, [], _∷_, _++_}
+use lib.ListN.{length}
 use Rattle.refusal.specs.declared.Reason.the-variants.{Kinds, Jobs}
 use Rattle.refusal.specs.declared.Verdict.{Verdict}
-use Rattle.refusal.specs.declared.Verdict.the-variants.{Accepted, Refused}
+use Rattle.refusal.specs.declared.Verdict.the-variants.{Refused}
 use Rattle.number.proofs.Steps.{below-or-not}
 use Rattle.fields.specs.Messages.{_before_}
 use Rattle.fields.proofs.Judged.{high-out}
 use Rattle.fields.proofs.Codecs.{all-map}
+use Rattle.fields.proofs.Answering.{written-alike}
 use Rattle.queue.specs.declared.Queue.{Queue}
-use Rattle.queue.specs.Record.{rows, Valid}
+use Rattle.queue.specs.Record.{rows, Valid, Same}
 use Rattle.queue.specs.Reading.{cleared}
 use Rattle.queue.specs.Writing.{message, judgeSettings, judgeTables, judgeHead, judgeJobs, judge, writeQueue, writtenQueue}
-use Rattle.queue_laws.proofs.Format.{Parts, settingsOf, tablesFormat, queueFormat}
-use Rattle.queue_laws.proofs.Message.{view, TablesFit, tables-back, kinds-back, sized, message-is, judge-is}
-use Rattle.queue_laws.proofs.Theorems.{judged-exactly}
+use Rattle.queue.proofs.Same.{alike-same}
+use Rattle.queue_laws.proofs.Format.{Parts, settingsOf, rowsOf, weightsOf, windowsOf, kindsOf, tablesFormat, queueFormat}
+use Rattle.queue_laws.proofs.Message.{view, TablesFit, tables-back, kinds-back, sized, message-is, judge-is, queue-message}
 
 -- two records with the same parts
 module _ (q r : Queue) (same : view q ≡ view r) where
@@ -70,19 +72,27 @@ module _ (q : Queue) where
   pub cleared-message : Valid q → message (cleared q) ≡ message q
   cleared-message v = same-message (cleared q) q (cleared-view q (v .kinds .1) (v .jobs))
 
+  -- and agree up to N and T
+  pub cleared-same : Valid q → Same (cleared q) q
+  unfolding cleared
+  cleared-same v =
+      let alike = cleared-view q (v .kinds .1) (v .jobs) in
+      alike-same (record {
+        kinds = refl;
+        goal = refl;
+        shift = refl;
+        start = refl;
+        jobs = refl;
+        rows = ap rowsOf alike;
+        weights = ap weightsOf alike;
+        windows = ap windowsOf alike;
+        kind-list = ap kindsOf alike;
+      })
+
   -- the writer's answer and the buffer: for every record, also one that is refused
-  answer-after : (v : Verdict) → judge q ≡ v → (room : ℕ) → writeQueue (cleared q) room ≡ writeQueue q room
-  unfolding writeQueue
-  answer-after Accepted e room = rw (cleared-judge, cleared-message (judged-exactly q .0 e))
-  answer-after (Refused r) e room = rw (cleared-judge, e)
-
-  buffer-after : (v : Verdict) → judge q ≡ v → (buffer : List ℕ) → writtenQueue (cleared q) buffer ≡ writtenQueue q buffer
+  pub cleared-writes : (buffer : List ℕ)
+      → (writeQueue (cleared q) (length buffer) ≡ writeQueue q (length buffer)) × (writtenQueue (cleared q) buffer ≡ writtenQueue q buffer)
   unfolding writeQueue writtenQueue
-  buffer-after Accepted e buffer = rw (cleared-judge, cleared-message (judged-exactly q .0 e))
-  buffer-after (Refused r) e buffer = rw (cleared-judge, e)
-
-  pub cleared-answer : (room : ℕ) → writeQueue (cleared q) room ≡ writeQueue q room
-  cleared-answer room = answer-after (judge q) refl room
-
-  pub cleared-buffer : (buffer : List ℕ) → writtenQueue (cleared q) buffer ≡ writtenQueue q buffer
-  cleared-buffer buffer = buffer-after (judge q) refl buffer
+  cleared-writes buffer =
+      written-alike 178 (judge (cleared q)) (judge q) (message (cleared q)) (message q) cleared-judge
+      (λ e. cleared-message (queue-message .accepts q .0 e)) (length buffer) buffer

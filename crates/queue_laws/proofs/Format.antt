@@ -2,18 +2,23 @@
 -- The numbers of each format: the most bytes it has, the bytes that decide what is found, and the refusals it can give beside 2 and 3.
 -- Assumes nothing.
 use Prim.Native.Nat.{ℕ, _+_, _^_, _≤_}
-use mathlib.Core.Path.{refl}
+use mathlib.Core.Path.{_≡_, refl, subst₂}
 use mathlib.Core.List.{List, [], _∷_}
 use native.Mathlib.Omega.{arith}
 use lib.ListN.{length-append}
 use borrow.Author.Tests.{lt-ltb}
 use Rattle.refusal.specs.declared.Reason.the-variants.{Edition, Kinds, Goal, Shift, Start, Gap, Pupils, Places, Jobs, JobKind}
-use Rattle.number.specs.Numbers.{encode}
+use Rattle.number.specs.Readers.{found}
+use Rattle.number.specs.Numbers.{number, encode}
+use Rattle.number.proofs.Steps.{went-on, found-value, found-next}
 use Rattle.number.proofs.Encoding.{length-encode}
-use Rattle.fields.specs.Fields.{within, all}
+use Rattle.fields.specs.Fields.{field, within, all}
 use Rattle.fields.specs.Messages.{check}
+use Rattle.fields.proofs.Judged.{field-found}
+use Rattle.fields.proofs.RoundTrip.{number-ends}
 use Rattle.queue.specs.declared.Settings.{Settings}
 use Rattle.queue.specs.Record.{windowOk}
+use Rattle.queue.specs.Reading.{window}
 use Rattle.queue.proofs.Windows.{good-window, window-good}
 use Rattle.formats.proofs.Verdicts.{judged-accepts}
 use Rattle.formats.proofs.Formats.{Format}
@@ -39,12 +44,26 @@ settingsFormat = mapped settingsParts (λ p. record { kinds = p .0; goal = p .1 
 abbrev pub WindowOk : ℕ × ℕ → Type 0
 WindowOk w = (1 ≤ w .0) × (w .0 ≤ w .1) × (w .1 ≤ 60)
 
+-- where they end: a_j, which is not judged by itself, is at most b_j, and so each has one byte
+pub window-ends : (s : List ℕ) (at : ℕ) (w : ℕ × ℕ) (n : ℕ) → window s at ≡ found w n → WindowOk w × (n ≤ at + 2)
+window-ends s at w n e =
+    let (a, i, e₁, q₁) = went-on (number 3 s at) _ w n e in
+    let (b, k, e₂, q₂) = went-on (field 3 (λ b. windowOk (a, b)) Places s i) _ w n q₁ in
+    let (f, t) = field-found 3 (λ b. windowOk (a, b)) Places s i b k e₂ in
+    let ok = good-window a b t in
+    let first = number-ends 3 s at a i e₁ .1 1 (omega arith) (omega arith) in
+    let last = number-ends 3 s i b k f .1 1 (omega arith) (omega arith) in
+    subst₂ (λ (w : ℕ × ℕ) (m : ℕ). WindowOk w × (m ≤ at + 2)) (found-value (a, b) w k n q₂) (found-next (a, b) w k n q₂) (ok, omega arith)
+
 -- a_j b_j: any number, then one that is judged with it
 abbrev pub windowFormat : {Given : Type 0} → Format (ℕ × ℕ) Given 2 6 (Places ∷ [])
 windowFormat =
     rejudged (andNext (anyNumber 3 (omega arith)) λ a. tested 3 (λ b. windowOk (a, b)) Places 1 (omega arith) (omega arith) (λ z b e. let k = good-window a b e in (omega arith, omega arith)))
     (record {
       Ok = WindowOk;
+      Known = WindowOk;
+      known = λ z w k. k;
+      finds = λ z. window-ends;
       Sized = λ w. Unit;
       judge = λ w. check (windowOk w) Places;
       ok-is = λ z w. (λ k. good-window (w .0) (w .1) (k .1), λ k. (omega (arith, k), window-good (w .0) (w .1) (k .0) (k .1) (k .2)));

@@ -84,7 +84,7 @@ module _ (p : Parts) where
   pub kinds-back : length (kindsOf p) ≡ jobsOf p → jobsOf p ≤ 60 → kindList (make p) ≡ kindsOf p
   kinds-back long few = array-back 60 (jobsOf p) (kindsOf p) long few
 
-  holds : queueFormat .Ok p → view (make p) ≡ p
+  holds : queueFormat .Known p → view (make p) ≡ p
   holds (edition-ok, (settings-ok, ((gaps-ok, (weights-ok, windows-ok)), (count-ok, kinds-ok)))) =
       let one : 1 ≡ p .0 = omega (arith, edition-ok) in
       let fit : TablesFit p = record {
@@ -125,8 +125,8 @@ module _ (q : Queue) where
         ),
       )
 
-  -- what the format accepts is what 01 allows
-  ok-valid : queueFormat .Ok (view q) → Valid q
+  -- what is found is what 01 allows
+  ok-valid : queueFormat .Known (view q) → Valid q
   ok-valid (edition-ok, (settings-ok, ((gaps-ok, (weights-ok, windows-ok)), (count-ok, kinds-ok)))) =
       record {
         kinds = settings-ok .0;
@@ -177,12 +177,13 @@ module _ (q : Queue) where
         ),
       )
 
-tied : Tied 0x51 0x53 queueFormat make view queue message Valid Fits judge cleared
+tied : Tied 0x51 0x53 queueFormat make view queue message Valid Valid Fits judge cleared
 unfolding cleared
 tied = record {
   read-is = read-is;
   message-is = message-is;
   valid-is = λ q. (ok-valid q, valid-ok q);
+  known-is = ok-valid;
   fits-is = fits-small;
   judge-is = judge-is;
   cleared-is = λ q. refl;
@@ -195,5 +196,5 @@ abbrev pub queueRefusals : List Reason
 queueRefusals = Opening ∷ LeftOver ∷ Edition ∷ Kinds ∷ Goal ∷ Shift ∷ Start ∷ Gap ∷ Pupils ∷ Places ∷ Jobs ∷ JobKind ∷ []
 
 -- at most 178 bytes, of which the first 180 decide
-pub queue-message : Message queue message Valid Fits judge cleared 178 180 queueRefusals
+pub queue-message : Message queue message Valid Valid Fits judge cleared 178 180 queueRefusals
 queue-message = laws tied 180 (omega arith) (omega arith)

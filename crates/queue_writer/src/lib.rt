@@ -12,6 +12,7 @@ ghost use Rattle.fields.specs.Fields.{within, all, part, encodeAll};
 ghost use Rattle.queue.specs.Record.{windowOk};
 ghost use Rattle.queue_writer.specs.Arrays.{gapRows, windowPairs};
 ghost use Rattle.queue.specs.Writing.{encodeWindow, settingsBytes, headBytes, jobBytes, message, judgeSettings, judgeTables, judgeHead, judgeJobs, judge, writeQueue, writtenQueue};
+ghost use Rattle.queue.specs.Writer.{WritesQueue};
 
 // Whether `count` of the values, from `from` on, are all at most `most`.
 fn all_at_most(values: &[u32], from: usize, count: usize, most: u64) -> bool
@@ -256,6 +257,7 @@ fn write_message(buffer: &mut [u8], queue: Queue) -> usize
 pub fn write_queue(buffer: &mut [u8], queue: Queue) -> Written
     ensures { λ r. ⌜ r ≡ writeQueue queue (length (now (buffer .entry))) ⌝ }
     ensures { λ _. ⌜ now (buffer .exit) ≡ writtenQueue queue (now (buffer .entry)) ⌝ }
+    ensures { λ r. ⌜ WritesQueue queue (now (buffer .entry)) (now (buffer .exit)) r ⌝ }
 {
     match judge_queue(queue) {
         Verdict::Refused(why) => Written::Refused(why),

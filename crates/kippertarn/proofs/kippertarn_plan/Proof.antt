@@ -15,8 +15,7 @@ planned-at c = c .before .before .before .before
 answer-number-requires : tie.Need-answer-number-requires
 answer-number-requires c κs =
     let p = planned-at c in
-    let bytes = p .before .before .before .before .before in
-    rw (p .plan .ensures .answer-is) (answer-fits (bytes .before .args .message .now) (λ i. bytes .shared-slice-known .given i .fits) _ _)
+    rw (p .plan .ensures .answer-is) (answer-fits _ _ _)
 
 returns : tie.Need-returns
 returns c =

@@ -85,7 +85,7 @@ returns-2 c =
     let found = found-at (followed-at w) in
     let start = entry (solved-at found) in
     ends-planned (solved (solved-at found)) (found .if1 .left) (start .args .buffer .now) (start .pre .1 .1 .1) (followed (followed-at w))
-    (sym (c .before .n .given .1) ∙ w .write-plan .ensures .0) (w .write-plan .ensures .1)
+    (sym (c .before .n .given .1) ∙ w .write-plan .ensures .0) (w .write-plan .ensures .1 .0)
 
 returns-3 : tie.Need-returns-3
 returns-3 c =

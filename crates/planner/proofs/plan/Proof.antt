@@ -1,7 +1,6 @@
 -- `planner::plan` meets its contract: the message's own refusal, or the queue planned.
 -- Assumes nothing.
 use mathlib.Core.Path.{_≡_, sym, ap, _∙_}
-use Rattle.fields.proofs.Codecs.{Bytes}
 use Rattle.queue.specs.declared.Reading.{Reading}
 use Rattle.queue.specs.Reading.{readQueue}
 use Rattle.queue_laws.proofs.Theorems.{accepted-valid}
@@ -16,22 +15,19 @@ use Rattle.planner.proofs.plan.Tie as tie
 abbrev entry : tie.After-read-queue → tie.Start
 entry c = c .before .before .before .before
 
-bytes : (c : tie.After-read-queue) → Bytes (entry c .args .message .now)
-bytes c i = c .before .before .before .shared-slice-known .given i .fits
-
 verdict-is : (c : tie.After-read-queue) → c .read-queue .result .verdict ≡ readQueue (entry c .args .message .now) .verdict
 verdict-is c = ap (λ (r : Reading). r .verdict) (c .read-queue .ensures)
 
 plan-record-requires : tie.Need-plan-record-requires
 plan-record-requires c κs =
     let w = c .before .before .before .before in
-    rw (w .read-queue .ensures) (accepted-valid _ (bytes w) (sym (verdict-is w) ∙ c .before .before .enum-told .given .1))
+    rw (w .read-queue .ensures) (accepted-valid _ (sym (verdict-is w) ∙ c .before .before .enum-told .given .1))
 
 returns : tie.Need-returns
 returns c =
     let w = c .before .before .before in
     let ends = ends-refused _ _ (message-refused _ _ _ _ (sym (verdict-is w) ∙ c .before .verdict .given .1)) in
-    planning (bytes w) (ends .0) (ends .1 .0) (ends .1 .1)
+    planning (ends .0) (ends .1 .0) (ends .1 .1)
 
 returns-2 : tie.Need-returns-2
 returns-2 c =
@@ -39,7 +35,7 @@ returns-2 c =
     let told = m .before .before .before in
     let w = told .before .before in
     let ends = ends-as _ _ _ (message-accepted _ _ _ (sym (verdict-is w) ∙ told .enum-told .given .1)) (rw (w .read-queue .ensures) at (m .plan-record .ensures)) in
-    planning (bytes w) (ends .0) (ends .1 .0) (ends .1 .1)
+    planning (ends .0) (ends .1 .0) (ends .1 .1)
 
 pub plan-spec : {M : Type 1} → statement M
 plan-spec =
