@@ -11,7 +11,7 @@ TESTS = cases source limits messages random orders
 PROGRAMS = $(TESTS:%=target/c/%)
 HEADERS = include/kippertarn.h examples/messages.h tests/c/reference.h tests/c/lent.h tests/c/queues.h bench/plain.h
 INSTALLED = target/include/kippertarn.h target/include/kippertarn_messages.h
-RUNS = $(addprefix run-,program header agreement archive example text picture $(TESTS))
+RUNS = $(addprefix run-,program header agreement reached archive example text picture $(TESTS))
 
 .PHONY: help run test lib install archive c-test soak bench valgrind clean $(RUNS)
 
@@ -104,6 +104,8 @@ run-header: $(INSTALLED)
 	@CC='$(CC)' CFLAGS='$(CFLAGS)' CXX='$(CXX)' CXXFLAGS='$(CXXFLAGS)' sh tests/c/header.sh target/include
 run-agreement:
 	@python3 tests/tools/messages_doc.py
+run-reached:
+	@python3 tools/reached-definitions --check
 run-archive:
 	@sh tests/c/archive.sh $(ARCHIVE)
 run-example: target/c/plan
