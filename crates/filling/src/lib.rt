@@ -41,7 +41,8 @@ fn state_value(
         return 0;
     }
     let best = next_states::least_of(next, gaps, kind, goal, weight);
-    best.cost
+    let cost = best.cost;
+    cost.number()
 }
 
 // The count with one more where there is a value.

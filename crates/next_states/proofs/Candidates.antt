@@ -27,8 +27,12 @@ module _ {next gaps : List ℕ} {row w : ℕ} (r : Ready next gaps row w) where
   candidate-fits x l u = fits (candidate next gaps row w x) (λ c e. r .small x c l u e)
 
   -- kind x, from 0, whose gap was looked up
-  pub small-next : (x : ℕ) → x < 5 → (gap : ℕ) → gap ≡ gapAt gaps row (x + 1) → (c : ℕ) → plus (w * gap) (loaded (getD next x 0)) ≡ some c → c < 2 ^ 64 - 1
-  small-next x h gap g c e = r .small (suc x) c (omega arith) h (rw (g, add-one) at e)
+  module _ (x gap : ℕ) (g : gap ≡ gapAt gaps row (x + 1)) where
+    pub comes-to : plus (w * gap) (loaded (getD next x 0)) ≡ candidate next gaps row w (x + 1)
+    comes-to = rw (g, add-one)
+
+    pub small-next : x < 5 → (c : ℕ) → plus (w * gap) (loaded (getD next x 0)) ≡ some c → c < 2 ^ 64 - 1
+    small-next h c e = r .small (x + 1) c (omega arith) (omega arith) (sym comes-to ∙ e)
 
 -- ---- the next states' entries
 

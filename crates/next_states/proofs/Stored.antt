@@ -36,6 +36,10 @@ fits-cond false r s h k = k
 fits-some : (r : Option ℕ) (c : ℕ) → Fits r → r ≡ some c → c < 2 ^ 64 - 1
 fits-some r c h e = rw e at h
 
+pub fits-stored : (r : Option ℕ) → Fits r → stored r < 2 ^ 64
+fits-stored none h = omega arith
+fits-stored (some c) h = omega arith
+
 pub loaded-stored : (r : Option ℕ) → Fits r → loaded (stored r) ≡ r
 loaded-stored none h = refl
 loaded-stored (some c) h = rw (ne-eqb c (2 ^ 64 - 1) (λ e. omega arith))

@@ -6,6 +6,7 @@ use mathlib.Core.Option.{Option, none, some}
 use mathlib.Core.Path.{_≡_}
 use lib.Dec.{ltb, eqb}
 use lib.ListN.{length, getD}
+use Rattle.units.specs.Costs.{costIn}
 use Rattle.gaps.specs.Gaps.{gapAt}
 use Rattle.sequencing.specs.Lists.{at}
 use Rattle.sequencing.specs.Least.{only, plus, least, argLeast}
@@ -30,9 +31,9 @@ nextValues table left strides block index =
 abbrev pub candidate : (next gaps : List ℕ) (row w : ℕ) → ℕ → Option ℕ
 candidate next gaps row w x = plus (w * gapAt gaps row x) (loaded (at next x))
 
--- the least of f over five kinds as it is answered: its cost, and the smallest kind that reaches it, 0 where there is none
-pub record IsLeast (f : ℕ → Option ℕ) (r : Least) : Type 0 where
-  pub cost-is : r .cost ≡ stored (least f 5)
+-- the least of f over five kinds as it is answered: its cost in the goal's unit, and the smallest kind that reaches it, 0 where there is none
+pub record IsLeast (goal : ℕ) (f : ℕ → Option ℕ) (r : Least) : Type 0 where
+  pub cost-is : r .cost ≡ costIn goal (stored (least f 5))
   pub kind-is : (c : ℕ) → least f 5 ≡ some c → r .kind ≡ argLeast f 5
   pub no-kind : least f 5 ≡ none → r .kind ≡ 0
 

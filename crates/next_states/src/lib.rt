@@ -1,4 +1,5 @@
 // The next states of one k: what the table holds for them, and the least over them from any row.
+use units::Cost;
 use units::PupilSeconds;
 use units::Seconds;
 ghost use mathlib.Core.Path.{_≡_};
@@ -7,6 +8,7 @@ ghost use mathlib.Core.Option.{some};
 ghost use Prim.Native.Nat.{ℕ, min, _+_, _-_, _*_, _^_, _≤_, _<_};
 ghost use lib.Dec.{ltb};
 ghost use lib.ListN.{length, getD};
+ghost use Rattle.units.specs.Costs.{costIn, numberOf};
 ghost use Rattle.sequencing.specs.Least.{only, plus};
 ghost use Rattle.sequencing.specs.Entries.{stored};
 ghost use Rattle.next_states.specs.NextStates.{loaded, nextValues, candidate, Loadable, Ready, IsLeast};
@@ -14,45 +16,38 @@ ghost use Rattle.next_states.specs.NextStates.{loaded, nextValues, candi
 // An entry that holds no value.
 pub const NONE: u64 = 18446744073709551615;
 
-// The least cost over the kinds, NONE where there is none, and the smallest kind that reaches it.
+// The least cost over the kinds, NONE of its unit where there is none, and the smallest kind that reaches it.
 pub struct Least {
-    pub cost: u64,
+    pub cost: Cost,
     pub kind: usize,
 }
 
 // One step's cost and what comes after it, in the goal's own unit.
-fn step_cost(goal: u32, weight: u64, gap: u32, value: u64) -> u64
+fn step_cost(goal: u32, weight: u64, gap: u32, value: u64) -> Cost
     requires { ⌜ (goal ≡ 1 → weight ≡ 1) × (weight * gap + value < 2 ^ 64) ⌝ }
-    ensures { λ r. ⌜ r ≡ weight * gap + value ⌝ }
+    ensures { λ r. ⌜ r ≡ costIn goal (weight * gap + value) ⌝ }
 {
     if goal == 1 {
-        let total = Seconds(gap as u64).plus(Seconds(value));
-        total.0
+        Cost::InSeconds(Seconds(gap as u64).plus(Seconds(value)))
     } else {
-        let total = Seconds(gap as u64)
-            .weighted(weight)
-            .plus(PupilSeconds(value));
-        total.0
+        let step = Seconds(gap as u64).weighted(weight);
+        Cost::InPupilSeconds(step.plus(PupilSeconds(value)))
     }
 }
 
-// What a next state with this value comes to, NONE where it has none.
-fn next_cost(value: u64, gap: u32, goal: u32, weight: u64) -> u64
+// The better of the least so far and one kind more, the earlier where they are equal; without a value of its next state a kind changes nothing.
+fn lower(best: Least, value: u64, gap: u32, goal: u32, weight: u64, kind: usize) -> Least
     requires { ⌜ (goal ≡ 1 → weight ≡ 1) × ((c : ℕ) → plus (weight * gap) (loaded value) ≡ some c → c < 2 ^ 64 - 1) ⌝ }
-    ensures { λ r. ⌜ r ≡ stored (plus (weight * gap) (loaded value)) ⌝ }
+    requires { ⌜ (best .cost ≡ costIn goal (numberOf (best .cost))) × (numberOf (best .cost) < 2 ^ 64) ⌝ }
+    ensures { λ r. ⌜ r .cost ≡ costIn goal (min (numberOf (best .cost)) (stored (plus (weight * gap) (loaded value)))) ⌝ }
+    ensures { λ r. ⌜ r .kind ≡ cond (ltb (stored (plus (weight * gap) (loaded value))) (numberOf (best .cost))) kind (best .kind) ⌝ }
 {
     if value == NONE {
-        return NONE;
+        return best;
     }
-    step_cost(goal, weight, gap, value)
-}
-
-// The better of two, the earlier where they are equal.
-fn lower(best: Least, cost: u64, kind: usize) -> Least
-    ensures { λ r. ⌜ r .cost ≡ min (best .cost) cost ⌝ }
-    ensures { λ r. ⌜ r .kind ≡ cond (ltb cost (best .cost)) kind (best .kind) ⌝ }
-{
-    if cost < best.cost {
+    let cost = step_cost(goal, weight, gap, value);
+    let so_far = best.cost;
+    if cost.less(so_far) {
         Least { cost, kind }
     } else {
         best
@@ -63,16 +58,16 @@ fn lower(best: Least, cost: u64, kind: usize) -> Least
 // fixed length is unrolled.
 pub fn least_of(next: &[u64], gaps: &[u32], row: usize, goal: u32, weight: u64) -> Least
     requires { ⌜ Ready (now next) (now gaps) row weight × (goal ≡ 1 → weight ≡ 1) ⌝ }
-    ensures { λ r. ⌜ IsLeast (candidate (now (next .entry)) (now (gaps .entry)) row weight) r ⌝ }
+    ensures { λ r. ⌜ IsLeast goal (candidate (now (next .entry)) (now (gaps .entry)) row weight) r ⌝ }
 {
     let mut best = Least {
-        cost: NONE,
+        cost: units::cost_in(goal, NONE),
         kind: 0,
     };
     let mut x: usize = 0;
     while x < 5 {
         let gap = gaps::gap_after(gaps, row, x + 1);
-        best = lower(best, next_cost(next[x], gap, goal, weight), x + 1);
+        best = lower(best, next[x], gap, goal, weight, x + 1);
         x = x + 1;
     }
     best
@@ -122,7 +117,7 @@ pub fn best_next(
     weight: u64,
 ) -> Least
     requires { ⌜ Loadable (now table) (now left) (now strides) block index × (Ready (nextValues (now table) (now left) (now strides) block index) (now gaps) row weight × (goal ≡ 1 → weight ≡ 1)) ⌝ }
-    ensures { λ r. ⌜ IsLeast (candidate (nextValues (now (table .entry)) (now (left .entry)) (now (strides .entry)) block index) (now (gaps .entry)) row weight) r ⌝ }
+    ensures { λ r. ⌜ IsLeast goal (candidate (nextValues (now (table .entry)) (now (left .entry)) (now (strides .entry)) block index) (now (gaps .entry)) row weight) r ⌝ }
 {
     let next = load_next(table, left, strides, block, index);
     least_of(&next, gaps, row, goal, weight)

@@ -26,7 +26,9 @@ fn make_plan(queue: Queue, layout: Layout, table: &mut [u64], buffer: &mut [u8])
 {
     let solution = solver::solve(queue, layout, table);
     let first = solution.first;
-    if first.cost == next_states::NONE {
+    let best = first.cost;
+    let cost = best.number();
+    if cost == next_states::NONE {
         return Answer::Refused(Reason::NoOrder);
     }
     let size = layout.size;
@@ -43,7 +45,7 @@ fn make_plan(queue: Queue, layout: Layout, table: &mut [u64], buffer: &mut [u8])
     );
     let plan = Plan {
         goal: queue.goal,
-        cost: first.cost,
+        cost,
         feasible_states: solution.feasible_states,
         jobs: queue.jobs,
         order,

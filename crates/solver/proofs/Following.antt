@@ -135,7 +135,7 @@ module _ {q : Queue} {l : Layout} {from upto : List ℕ} {index first places : �
 
     -- and the next kind found
     module _ {job : ℕ} {r : Least} (job-is : job ≡ getD (l .jobs) (getD (l .begins) (kind - 1) 0 + (getD upto (kind - 1) 0 - getD left (kind - 1) 0)) 0)
-        (chosen : Chosen (problem q) kind (kAt (problem q) (i - getD (l .strides) (kind - 1) 0)) r) where
+        (chosen : Chosen (problem q) (q .goal) kind (kAt (problem q) (i - getD (l .strides) (kind - 1) 0)) r) where
       next-kind : 0 < sum (complete k kind) → r .kind ≡ argLeast (choice (problem q) kind (complete k kind)) (q .kinds)
       next-kind s = let (c, e) = found-after (problem q) k kind takes-now s in (rw then-is at chosen) .kind-is c e
 

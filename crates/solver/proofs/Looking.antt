@@ -22,6 +22,7 @@ use Rattle.jobs_left.specs.Steps.{LeftAt}
 use Rattle.jobs_left.proofs.LeftAt.{left-at}
 use Rattle.layout.specs.declared.Layout.{Layout}
 use Rattle.layout.specs.Prepared.{Prepared}
+use Rattle.units.specs.Costs.{costIn}
 use Rattle.next_states.specs.declared.Least.{Least}
 use Rattle.next_states.specs.NextStates.{nextValues, candidate, Loadable, Ready, IsLeast}
 use Rattle.filling.specs.Filling.{Earlier}
@@ -71,11 +72,11 @@ module _ {q : Queue} {l : Layout} {table left : List ℕ} {i : ℕ} (look : Look
   may-look row u = (loadable look, (rw step-is (ready look row u), λ e. step ∙ rw (eq-eqb _ _ e)))
 
   -- what is found is the recursion's choice
-  pub looked : (row : ℕ) {r : Least} → IsLeast (candidate (nextValues table left (l .strides) (l .size .block) i) (q .gaps) row w) r → Chosen (problem q) row (kAt (problem q) i) r
+  pub looked : (row : ℕ) {r : Least} → IsLeast (q .goal) (candidate (nextValues table left (l .strides) (l .size .block) i) (q .gaps) row w) r → Chosen (problem q) (q .goal) row (kAt (problem q) i) r
   looked row found =
       let f = rw step-is at found in
       record {
-        cost-is = f .cost-is ∙ ap stored (least-is look row);
+        cost-is = f .cost-is ∙ rw (least-is look row);
         kind-is = λ c e. f .kind-is c (least-is look row ∙ e) ∙ taken-is look row c e;
         no-kind = λ e. f .no-kind (least-is look row ∙ e);
       }

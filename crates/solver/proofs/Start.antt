@@ -64,12 +64,12 @@ module _ {q : Queue} {l : Layout} (v : Valid q) (p : Prepared q l) where
   start-places = rw last-is (sym (all-jobs v))
 
   -- what is found there is the plan's cost and its first kind
-  pub first-choice : 0 < q .jobs → {r : Least} → Chosen (problem q) (q .start) (kAt (problem q) (l .size .block - 1)) r → FirstChoice q r
+  pub first-choice : 0 < q .jobs → {r : Least} → Chosen (problem q) (q .goal) (q .start) (kAt (problem q) (l .size .block - 1)) r → FirstChoice q r
   first-choice h chosen =
       let f = rw last-is at chosen in
       let e = plan-some-jobs q v h in
       record {
-        cost-is = f .cost-is ∙ ap stored (sym e);
+        cost-is = f .cost-is ∙ rw e;
         kind-is = λ _ some-plan. let (c, g) = some-cost (planCost (problem q)) some-plan in f .kind-is c (sym e ∙ g);
         no-plan = λ n. f .no-kind (sym e ∙ n);
         no-jobs = λ z. absurd (omega arith);

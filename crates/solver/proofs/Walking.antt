@@ -17,6 +17,7 @@ use Rattle.sequencing.proofs.JobsLeft.{complete-left}
 use Rattle.sequencing.proofs.Least.{smallest}
 use Rattle.sequencing.proofs.Recursion.{value-some, choice-some}
 use Rattle.sequencing.proofs.Vectors.{complete-sum, at-in}
+use Rattle.units.specs.Costs.{costIn}
 use Rattle.next_states.specs.declared.Least.{Least}
 use Rattle.solver.specs.Following.{byHandInUpto, Takes, walkBy}
 
@@ -25,9 +26,9 @@ some-cost none h = absurd (h refl)
 some-cost (some c) h = (c, refl)
 
 module _ (P : Problem) where
-  -- the recursion's choice from (L; k) on as it is answered: its cost, and its kind, 0 where there is none
-  pub record Chosen (L : ℕ) (k : List ℕ) (r : Least) : Type 0 where
-    pub cost-is : r .cost ≡ stored (least (choice P L k) (P .N))
+  -- the recursion's choice from (L; k) on as it is answered: its cost in the goal's own unit, and its kind, 0 where there is none
+  pub record Chosen (goal L : ℕ) (k : List ℕ) (r : Least) : Type 0 where
+    pub cost-is : r .cost ≡ costIn goal (stored (least (choice P L k) (P .N)))
     pub kind-is : (c : ℕ) → least (choice P L k) (P .N) ≡ some c → r .kind ≡ argLeast (choice P L k) (P .N)
     pub no-kind : least (choice P L k) (P .N) ≡ none → r .kind ≡ 0
 

@@ -14,7 +14,7 @@ ghost use Rattle.filling.specs.Filling.{Earlier};
 ghost use Rattle.solver.specs.Solving.{FirstChoice};
 ghost use Rattle.solver.specs.Following.{Share, Followed};
 
-// The first choice from the start, whose cost is the plan's (NONE where no order is permitted), and the feasible states.
+// The first choice from the start, whose cost is the plan's in its unit (NONE of it where no order is permitted), and the feasible states.
 pub struct Solution {
     pub first: Least,
     pub feasible_states: u64,
@@ -26,7 +26,10 @@ fn first_choice(queue: Queue, layout: Layout, table: &[u64]) -> Least
     ensures { λ r. ⌜ FirstChoice queue r ⌝ }
 {
     if queue.jobs == 0 {
-        return Least { cost: 0, kind: 0 };
+        return Least {
+            cost: units::cost_in(queue.goal, 0),
+            kind: 0,
+        };
     }
     let size = layout.size;
     let gaps = queue.gaps;

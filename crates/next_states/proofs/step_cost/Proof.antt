@@ -2,6 +2,7 @@
 -- Assumes nothing.
 use native.Mathlib.Omega.{arith}
 use borrow.Author.Needs.{needs}
+use Rattle.units.proofs.Costs.{as-seconds, as-pupil-seconds}
 use Rattle.next_states.proofs.step_cost.Statement.{statement}
 use Rattle.next_states.proofs.step_cost.Tie as tie
 
@@ -14,8 +15,9 @@ plus-requires c κs =
 returns : tie.Need-returns
 returns c =
     let one = c .before .before .pre .0 (c .before .if1 .taken) in
-    rw one (omega arith)
+    as-seconds (c .before .if1 .taken) (rw one (omega arith))
 
 pub step-cost-spec : {M : Type 1} → statement M
 step-cost-spec =
-    tie.close (tie.spec plus-requires (λ c κs. search needs) (λ c κs. search needs) returns (λ c. search needs))
+    tie.close (tie.spec plus-requires (λ c κs. search needs) (λ c κs. search needs) returns
+    (λ c. as-pupil-seconds (c .before .before .if1 .left) (omega arith)))

@@ -4,6 +4,7 @@ use Prim.Native.Nat.{_<_}
 use mathlib.Core.Option.{none}
 use mathlib.Core.Path.{_≡_, sym, _∙_}
 use native.Mathlib.Omega.{arith}
+use Rattle.units.proofs.Costs.{number-is}
 use Rattle.fields.specs.Lists.{filled}
 use Rattle.sequencing.specs.States.{allLeft}
 use Rattle.sequencing.specs.Least.{argLeast}
@@ -20,32 +21,41 @@ use Rattle.planner.proofs.make_plan.Tie as tie
 abbrev entry : tie.After-solve → tie.Start
 entry c = c .before .before .before .before
 
-solved : (c : tie.After-solve)
-    → Solved (entry c .args .queue) (entry c .args .table .now) (c .solve .last .1 .1 .0) (c .solve .result .first .cost) (c .solve .result .«feasible_states»)
+-- where it is solved, from where its cost is a number
+abbrev solved-at : tie.After-number → tie.After-solve
+solved-at c = c .before .before .before .before
+
+solved : (c : tie.After-number) → let s = solved-at c in
+    Solved (entry s .args .queue) (entry s .args .table .now) (s .solve .last .1 .1 .0) (c .number .result) (s .solve .result .«feasible_states»)
 solved c =
-    let told = c .solve .ensures in
-    record { valid = entry c .pre .0; fills = told .0; cost-is = told .1 .0 .cost-is; states-are = told .1 .1 }
+    let told = solved-at c .solve .ensures in
+    record {
+      valid = entry (solved-at c) .pre .0;
+      fills = told .0;
+      cost-is = c .number .ensures ∙ number-is _ _ (told .1 .0 .cost-is);
+      states-are = told .1 .1;
+    }
 
--- where it is solved, from where a cost was found
-abbrev solved-at : tie.Else1 → tie.After-solve
-solved-at c = c .before .before .before .before .before
+-- where its cost is a number, from where one was found
+abbrev number-at : tie.Else1 → tie.After-number
+number-at c = c .before
 
-some-plan : (c : tie.Else1) → planCost (problem (entry (solved-at c) .args .queue)) ≡ none → ⊥
-some-plan c = some-order (solved (solved-at c)) (c .if1 .left)
+some-plan : (c : tie.Else1) → planCost (problem (entry (solved-at (number-at c)) .args .queue)) ≡ none → ⊥
+some-plan c = some-order (solved (number-at c)) (c .if1 .left)
 
 -- the first kind is the recursion's
-first-is : (c : tie.Else1) → let q = entry (solved-at c) .args .queue in
-    0 < q .jobs → solved-at c .solve .result .first .kind ≡ argLeast (choice (problem q) (q .start) (allLeft (problem q))) (q .kinds)
-first-is c h = solved-at c .solve .ensures .1 .0 .kind-is h (some-plan c)
+first-is : (c : tie.Else1) → let q = entry (solved-at (number-at c)) .args .queue in
+    0 < q .jobs → solved-at (number-at c) .solve .result .first .kind ≡ argLeast (choice (problem q) (q .start) (allLeft (problem q))) (q .kinds)
+first-is c h = solved-at (number-at c) .solve .ensures .1 .0 .kind-is h (some-plan c)
 
 -- where a cost was found, from where the order is followed
 abbrev found-at : tie.After-follow → tie.Else1
 found-at c = c .before .before .before .before .before .before
 
-followed : (c : tie.After-follow) → c .follow .result ≡ filled 60 (planOrder (problem (entry (solved-at (found-at c)) .args .queue)))
+followed : (c : tie.After-follow) → c .follow .result ≡ filled 60 (planOrder (problem (entry (solved-at (number-at (found-at c))) .args .queue)))
 followed c =
     let found = found-at c in
-    let start = entry (solved-at found) in
+    let start = entry (solved-at (number-at found)) in
     order-followed (start .pre .0) (start .pre .1 .0) (some-plan found) (first-is found) (c .follow .ensures)
 
 -- where the order is followed, from where the plan is written
@@ -53,16 +63,16 @@ abbrev followed-at : tie.After-write-plan → tie.After-follow
 followed-at c = c .before .before
 
 returns : tie.Need-returns
-returns c = ends-unplannable (solved (c .before .before .before .before .before)) (c .if1 .taken)
+returns c = ends-unplannable (solved (c .before)) (c .if1 .taken)
 
 sub-follow : tie.Need-sub-follow
-sub-follow c = let start = entry (solved-at (c .before .before .before .before)) in omega (arith, some-block (start .pre .0) (start .pre .1 .0))
+sub-follow c = let start = entry (solved-at (number-at (c .before .before .before .before))) in omega (arith, some-block (start .pre .0) (start .pre .1 .0))
 
 follow-requires : tie.Need-follow-requires
 follow-requires c κs =
     let found = c .before .before .before .before .before in
-    let s = solved (solved-at found) in
-    let start = entry (solved-at found) in
+    let s = solved (number-at found) in
+    let start = entry (solved-at (number-at found)) in
     let v = start .pre .0 in
     let p = start .pre .1 .0 in
     let jobs = p .jobs-are in
@@ -83,19 +93,20 @@ returns-2 : tie.Need-returns-2
 returns-2 c =
     let w = c .before .before .before .before .before in
     let found = found-at (followed-at w) in
-    let start = entry (solved-at found) in
-    ends-planned (solved (solved-at found)) (found .if1 .left) (start .args .buffer .now) (start .pre .1 .1 .1) (followed (followed-at w))
+    let start = entry (solved-at (number-at found)) in
+    ends-planned (solved (number-at found)) (found .if1 .left) (start .args .buffer .now) (start .pre .1 .1 .1) (followed (followed-at w))
     (sym (c .before .n .given .1) ∙ w .write-plan .ensures .0) (w .write-plan .ensures .1 .0)
 
 returns-3 : tie.Need-returns-3
 returns-3 c =
     let w = c .before .before .before .before .before in
     let found = found-at (followed-at w) in
-    let start = entry (solved-at found) in
-    never-refused (solved (solved-at found)) (found .if1 .left) (start .args .buffer .now) (start .pre .1 .1 .1) (followed (followed-at w))
+    let start = entry (solved-at (number-at found)) in
+    never-refused (solved (number-at found)) (found .if1 .left) (start .args .buffer .now) (start .pre .1 .1 .1) (followed (followed-at w))
     (sym (c .before .why .given .1) ∙ w .write-plan .ensures .0)
 
 pub make-plan-spec : {M : Type 1} → statement M
 make-plan-spec =
-    tie.close (tie.spec (λ c κs. search needs) (λ c. search needs) returns sub-follow (λ c. search needs) follow-requires (λ c κs. search needs)
-    (λ c. search needs) (λ c. search needs) (λ c. search needs) (λ c. search needs) returns-2 (λ c. search needs) (λ c. search needs) returns-3)
+    tie.close (tie.spec (λ c κs. search needs) (λ c κs. search needs) (λ c. search needs) returns sub-follow (λ c. search needs) follow-requires
+    (λ c κs. search needs) (λ c. search needs) (λ c. search needs) (λ c. search needs) (λ c. search needs) returns-2 (λ c. search needs) (λ c. search needs)
+    returns-3)

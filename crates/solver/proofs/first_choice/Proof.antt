@@ -1,6 +1,6 @@
 -- `solver::first_choice` meets its contract: the same rule with the start's row and all jobs left.
 -- Assumes nothing.
-use mathlib.Core.Path.{_≡_, refl, sym, ap}
+use mathlib.Core.Path.{_≡_, refl, sym, _∙_}
 use Prim.Native.Nat.{_-_}
 use lib.ListN.{length}
 use Rattle.queue.specs.Record.{weight}
@@ -42,8 +42,8 @@ weighs c = let p = entry (c .before) .pre in weighed (p .0) (p .1 .0) (start-lef
 
 returns : tie.Need-returns
 returns c = record {
-  cost-is = sym (ap stored (plan-no-jobs _ (c .before .before .before .pre .0) (c .if1 .taken)));
-  kind-is = λ h _. absurd (omega (arith, c .if1 .taken));
+  cost-is = c .cost-in .ensures ∙ rw (plan-no-jobs _ (c .before .before .before .before .pre .0) (c .before .if1 .taken));
+  kind-is = λ h _. absurd (omega (arith, c .before .if1 .taken));
   no-plan = λ _. refl;
   no-jobs = λ _. refl;
 }
@@ -70,6 +70,6 @@ returns-2 c =
 
 pub first-choice-spec : {M : Type 1} → statement M
 first-choice-spec =
-    tie.close (tie.spec returns (λ c. search needs) (λ c. sym (sized (entry c) .0)) weight-left-requires (λ c. search needs)
+    tie.close (tie.spec (λ c κs. search needs) returns (λ c. search needs) (λ c. sym (sized (entry c) .0)) weight-left-requires (λ c. search needs)
     slice-aggregate-best-next-2 (λ c. sym (sized (entry (weighed-up c .before)) .1)) sub-best-next (λ c. search needs) (λ c κs. search needs)
     best-next-requires returns-2)
