@@ -21,9 +21,10 @@ use Rattle.plan.specs.Writing.{message, writePlan, writtenPlan}
 use Rattle.plan_laws.proofs.Theorems.{valid-judged}
 use Rattle.sequencing.specs.Lists.{sum}
 use Rattle.sequencing.specs.Problem.{Problem}
-use Rattle.sequencing.specs.States.{allLeft, byHandInUpto}
+use Rattle.sequencing.specs.States.{allLeft}
 use Rattle.sequencing.specs.Least.{argLeast}
 use Rattle.sequencing.specs.Recursion.{choice, planCost, planOrder}
+use Rattle.sequencing.specs.Following.{byHandInUpto}
 use Rattle.sequencing.specs.Counts.{feasibleStates}
 use Rattle.sequencing.specs.Entries.{kAt, stored, FilledTable}
 use Rattle.sequencing.proofs.Recursion.{walk-by}

@@ -10,7 +10,8 @@ use Rattle.sequencing.specs.Lists.{at, sum}
 use Rattle.sequencing.specs.Problem.{Problem}
 use Rattle.sequencing.specs.States.{complete, K, IsLeft, job, place}
 use Rattle.sequencing.specs.Least.{only, plus, argLeast}
-use Rattle.sequencing.specs.Recursion.{W, costToGo, value, choice, walk, walkBy}
+use Rattle.sequencing.specs.Recursion.{W, costToGo, value, choice, walk}
+use Rattle.sequencing.specs.Following.{walkBy}
 use Rattle.sequencing.proofs.Vectors.{complete-sum, at-in}
 use Rattle.sequencing.proofs.JobsLeft.{complete-left, complete-below}
 use Rattle.sequencing.proofs.Fills.{Fills}

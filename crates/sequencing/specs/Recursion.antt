@@ -46,11 +46,6 @@ module _ (P : Problem) where
       let x : ℕ = argLeast (choice L k) (P .N) in
       x ∷ walk n x (complete k x)
 
-  -- the kinds taken at n places with k left, the first of them x: then each time the recursion's choice
-  unfoldable pub walkBy : ℕ → ℕ → List ℕ → List ℕ
-  walkBy zero x k = []
-  walkBy (suc n) x k = x ∷ walk n x (complete k x)
-
   -- the plan's cost: the same rule with L = s and all jobs left
   unfoldable pub planCost : Option ℕ
   planCost = costToGo (P .start) (allLeft P)

@@ -53,8 +53,3 @@ module _ (P : Problem) where
   unfoldable pub byHandIn : List ℕ → List ℕ → List ℕ
   byHandIn k [] = []
   byHandIn k (x ∷ xs) = job x (complete k x) ∷ byHandIn (complete k x) xs
-
-  -- the same, each kind by hand-in up to its m_j-th job (all K_j: 01's own)
-  unfoldable pub byHandInUpto : List ℕ → List ℕ → List ℕ → List ℕ
-  byHandInUpto m k [] = []
-  byHandInUpto m k (x ∷ xs) = at (jobsOf x) (at m x - at (complete k x) x) ∷ byHandInUpto m (complete k x) xs

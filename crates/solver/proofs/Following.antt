@@ -12,9 +12,10 @@ use Rattle.queue.specs.declared.Queue.{Queue}
 use Rattle.queue.specs.Record.{weight}
 use Rattle.sequencing.specs.Lists.{at, sum, weigh}
 use Rattle.sequencing.specs.Problem.{Problem}
-use Rattle.sequencing.specs.States.{complete, K, allLeft, jobsOf, byHandInUpto}
+use Rattle.sequencing.specs.States.{complete, K, allLeft, jobsOf}
 use Rattle.sequencing.specs.Least.{argLeast}
-use Rattle.sequencing.specs.Recursion.{choice, walkBy}
+use Rattle.sequencing.specs.Recursion.{choice}
+use Rattle.sequencing.specs.Following.{walkBy, byHandInUpto}
 use Rattle.sequencing.specs.Entries.{kAt, stride}
 use Rattle.sequencing.proofs.Counting.{one-self}
 use Rattle.sequencing.proofs.Vectors.{at-minus, complete-sum, complete-weigh, at-complete}

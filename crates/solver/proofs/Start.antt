@@ -11,9 +11,10 @@ use Rattle.fields.proofs.Arrays.{filled-past}
 use Rattle.queue.specs.declared.Queue.{Queue}
 use Rattle.queue.specs.Record.{Valid}
 use Rattle.sequencing.specs.Lists.{at, sum}
-use Rattle.sequencing.specs.States.{allLeft, byHandInUpto}
+use Rattle.sequencing.specs.States.{allLeft}
 use Rattle.sequencing.specs.Least.{argLeast}
 use Rattle.sequencing.specs.Recursion.{choice, walk, planCost, planKinds, planOrder}
+use Rattle.sequencing.specs.Following.{byHandInUpto}
 use Rattle.sequencing.specs.Entries.{size, index, digits, kAt, stored}
 use Rattle.sequencing.proofs.AllJobs.{length-all, all-left, sum-all}
 use Rattle.sequencing.proofs.Radix.{size-pos, digits-index}

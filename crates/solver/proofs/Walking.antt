@@ -7,9 +7,10 @@ use mathlib.Core.Path.{_≡_, refl, sym, _∙_}
 use native.Mathlib.Omega.{arith}
 use Rattle.sequencing.specs.Lists.{at, sum}
 use Rattle.sequencing.specs.Problem.{Problem}
-use Rattle.sequencing.specs.States.{complete, K, IsLeft, jobsOf, byHandIn, byHandInUpto}
+use Rattle.sequencing.specs.States.{complete, K, IsLeft, jobsOf, byHandIn}
 use Rattle.sequencing.specs.Least.{least, argLeast}
-use Rattle.sequencing.specs.Recursion.{value, choice, walkBy}
+use Rattle.sequencing.specs.Recursion.{value, choice}
+use Rattle.sequencing.specs.Following.{walkBy, byHandInUpto}
 use Rattle.sequencing.specs.Entries.{stored}
 use Rattle.sequencing.proofs.Equations.{cost-some-left}
 use Rattle.sequencing.proofs.Fills.{Fills}

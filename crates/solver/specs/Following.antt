@@ -8,8 +8,9 @@ use Rattle.queue.specs.declared.Queue.{Queue}
 use Rattle.queue.specs.Record.{Valid}
 use Rattle.sequencing.specs.Lists.{at, sum}
 use Rattle.sequencing.specs.Problem.{Problem}
-use Rattle.sequencing.specs.States.{complete, byHandInUpto}
-use Rattle.sequencing.specs.Recursion.{value, walkBy}
+use Rattle.sequencing.specs.States.{complete}
+use Rattle.sequencing.specs.Recursion.{value}
+use Rattle.sequencing.specs.Following.{walkBy, byHandInUpto}
 use Rattle.sequencing.specs.Entries.{kAt}
 use Rattle.problem.specs.OfQueue.{problem}
 use Rattle.jobs_left.specs.Steps.{LeftAt}

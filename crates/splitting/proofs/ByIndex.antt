@@ -11,9 +11,10 @@ use native.Mathlib.Omega.{arith}
 use lib.ListN.{length}
 use Rattle.sequencing.specs.Lists.{at, sum}
 use Rattle.sequencing.specs.Problem.{Problem, Proper, AllPermitted}
-use Rattle.sequencing.specs.States.{K, allLeft, IsLeft, byHandInUpto}
+use Rattle.sequencing.specs.States.{K, allLeft, IsLeft}
 use Rattle.sequencing.specs.Least.{argLeast}
-use Rattle.sequencing.specs.Recursion.{costToGo, choice, walkBy}
+use Rattle.sequencing.specs.Recursion.{costToGo, choice}
+use Rattle.sequencing.specs.Following.{walkBy, byHandInUpto}
 use Rattle.sequencing.specs.Entries.{size, index, digits, kAt, block, stored}
 use Rattle.sequencing.proofs.AllJobs.{at-all, length-all, below-all}
 use Rattle.sequencing.proofs.Options.{none-some}

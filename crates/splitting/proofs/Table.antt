@@ -9,9 +9,10 @@ use native.Mathlib.Omega.{arith}
 use lib.Dec.{eqb}
 use Rattle.sequencing.specs.Lists.{at, sum, filter}
 use Rattle.sequencing.specs.Problem.{Problem, kind, AllPermitted}
-use Rattle.sequencing.specs.States.{complete, jobsOf, K, allLeft, IsLeft, byHandIn, byHandInUpto}
+use Rattle.sequencing.specs.States.{complete, jobsOf, K, allLeft, IsLeft, byHandIn}
 use Rattle.sequencing.specs.Least.{argLeast}
-use Rattle.sequencing.specs.Recursion.{costToGo, choice, walk, walkBy, planCost, planKinds, planOrder}
+use Rattle.sequencing.specs.Recursion.{costToGo, choice, walk, planCost, planKinds, planOrder}
+use Rattle.sequencing.specs.Following.{walkBy, byHandInUpto}
 use Rattle.sequencing.proofs.Vectors.{at-take, at-in}
 use Rattle.sequencing.proofs.AllJobs.{all-left}
 use Rattle.sequencing.proofs.JobsLeft.{complete-left, complete-below}

@@ -17,7 +17,7 @@ both goal none b = none
 both goal (some a) none = none
 both goal (some a) (some b) = some (ofBoth goal a b)
 
--- the least of f over all n with n_j ≤ c_j
+-- the least of f over all n with n_j ≤ c_j; x counts from 1, so that n_1 is one less
 unfoldable pub leastCost : (List ℕ → Option ℕ) → List ℕ → Option ℕ
 leastCost f [] = f []
 leastCost f (c ∷ cs) = least (λ x. leastCost (λ n. f (pred x ∷ n)) cs) (suc c)
