@@ -8,14 +8,8 @@ use lib.ListN.{length, getD}
 use Rattle.sequencing.specs.Lists.{count}
 use Rattle.sequencing.specs.Problem.{Problem, T}
 use Rattle.sequencing.specs.Orders.{IsOrder}
-use Rattle.sequencing.proofs.Counting.{one-self, from-in, from-le}
+use Rattle.sequencing.proofs.Counting.{one-self, count-at, from-in, from-le}
 use Rattle.sequencing.proofs.Orders.{order-counts}
-
-count-at : (xs : List ℕ) (a : ℕ) → a < length xs → 0 < count (getD xs a 0) xs
-unfolding count
-count-at [] a h = absurd (omega arith)
-count-at (x ∷ xs) zero h = omega (arith, one-self x)
-count-at (x ∷ xs) (suc a) h = omega (arith, count-at xs a (omega arith))
 
 count-twice : (xs : List ℕ) (a b : ℕ) → a < b → b < length xs → getD xs a 0 ≡ getD xs b 0 → 1 < count (getD xs a 0) xs
 unfolding count

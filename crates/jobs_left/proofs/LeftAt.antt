@@ -6,7 +6,7 @@ use mathlib.Core.Path.{_≡_, refl, sym, ap, ap₂, _∙_}
 use native.Mathlib.Nat.{suc-mul, mul-le-mul-left}
 use native.Mathlib.Omega.{arith}
 use lib.ListN.{length, getD, take, drop, set, replicate, length-set}
-use lib.Seq.{take-set-lt, getD-take, getD-drop, getD-set-other}
+use lib.Seq.{take-set-lt, getD-drop, getD-set-other}
 use Rattle.fields.proofs.Arrays.{getD-zeros}
 use Rattle.sequencing.specs.Lists.{at}
 use Rattle.sequencing.specs.Problem.{Problem}
@@ -14,7 +14,7 @@ use Rattle.sequencing.specs.States.{complete, allLeft}
 use Rattle.sequencing.specs.Entries.{size, index, digits, stride, block}
 use Rattle.sequencing.proofs.AllJobs.{length-all}
 use Rattle.sequencing.proofs.Radix.{size-pos, digits-index, index-digits, digits-length, digits-le, index-complete, stride-pos}
-use Rattle.sequencing.proofs.Vectors.{at-in, complete-length, at-complete}
+use Rattle.sequencing.proofs.Vectors.{at-take, at-in, complete-length, at-complete}
 use Rattle.jobs_left.specs.Steps.{next, LeftAt}
 use Rattle.jobs_left.proofs.Stepping.{next-digits, digits-zero}
 
@@ -60,10 +60,6 @@ at-past n xs ys e (suc j) h =
     let s : n + (j - n) ≡ j = omega arith in
     rw s at (sym (getD-drop n xs (j - n) 0) ∙ ap (λ l. getD l (j - n) 0) e ∙ getD-drop n ys (j - n) 0)
 
-at-take : (n : ℕ) (xs : List ℕ) (x : ℕ) → 1 ≤ x → x ≤ n → at (take n xs) x ≡ at xs x
-at-take n xs zero l u = absurd (omega arith)
-at-take n xs (suc r) l u = getD-take n xs r 0 (omega arith)
-
 at-set-past : (xs : List ℕ) (i a j : ℕ) → suc i < j → at (set xs i a) j ≡ at xs j
 at-set-past xs i a zero h = absurd (omega arith)
 at-set-past xs i a (suc j) h = getD-set-other xs i j a 0 (λ e. omega arith)
@@ -94,7 +90,7 @@ module _ {P : Problem} where
     }
 
     pub left-at : (x : ℕ) → 1 ≤ x → x ≤ P .N → at left x ≡ at (digits (allLeft P) i) x
-    left-at x l u = sym (at-take (P .N) left x l u) ∙ ap (λ k. at k x) (w .here)
+    left-at x l u = sym (at-take (P .N) left x u) ∙ ap (λ k. at k x) (w .here)
 
     -- a kind with a job left is one of the N
     pub left-in : (x : ℕ) → 0 < at left x → (1 ≤ x) × (x ≤ P .N)

@@ -7,8 +7,7 @@ use lib.Dec.{ltb}
 use lib.ListN.{length, getD, take}
 use Rattle.sequencing.specs.Lists.{at, sum, weigh}
 use Rattle.sequencing.specs.Problem.{Problem}
-use Rattle.sequencing.specs.States.{allLeft}
-use Rattle.sequencing.specs.Entries.{digits, block}
+use Rattle.sequencing.specs.Entries.{kAt, block}
 
 -- k with one job of the first kind more that has one to add, and none of the kinds before it
 unfoldable pub next : List ℕ → List ℕ → List ℕ
@@ -24,6 +23,6 @@ pub record Summed (weights k : List ℕ) (jobs weight : ℕ) : Type 0 where
 -- an array of five holds the k whose index is i, and 0 past the last kind
 pub record LeftAt (P : Problem) (left : List ℕ) (i : ℕ) : Type 0 where
   pub long : length left ≡ 5
-  pub here : take (P .N) left ≡ digits (allLeft P) i
+  pub here : take (P .N) left ≡ kAt P i
   pub past : (j : ℕ) → P .N < j → at left j ≡ 0
   pub within : i < block P

@@ -24,14 +24,15 @@ use Rattle.sequencing.specs.Problem.{Problem}
 use Rattle.sequencing.specs.States.{allLeft}
 use Rattle.sequencing.specs.Least.{argLeast}
 use Rattle.sequencing.specs.Recursion.{choice, planCost, planOrder}
+use Rattle.sequencing.specs.Following.{byHandInUpto}
 use Rattle.sequencing.specs.Counts.{feasibleStates}
-use Rattle.sequencing.specs.Entries.{stored, FilledTable}
+use Rattle.sequencing.specs.Entries.{kAt, stored, FilledTable}
+use Rattle.sequencing.proofs.Recursion.{walk-by}
 use Rattle.problem.specs.OfQueue.{problem}
 use Rattle.problem.proofs.Queues.{cost-fits}
 use Rattle.layout.specs.declared.Layout.{Layout}
 use Rattle.layout.specs.Prepared.{Prepared}
-use Rattle.solver.specs.Following.{kAt, byHandInUpto, Followed}
-use Rattle.solver.proofs.Walking.{walk-by}
+use Rattle.solver.specs.Following.{Followed}
 use Rattle.solver.proofs.Start.{all-jobs, last-is, order-is}
 use Rattle.best_order.specs.Endings.{solved, bestPlan}
 use Rattle.best_order.proofs.Plans.{valid-plan}

@@ -18,12 +18,14 @@ use Rattle.problem.specs.OfQueue.{problem}
 use Rattle.problem.specs.Bounds.{valueLimit}
 use Rattle.problem.proofs.Rule.{limits, few-jobs}
 
+-- with at most sixty jobs, a bound by jobs is below the number
+pub limit-of : (n c : ℕ) → n ≤ 60 → c ≤ triangle n * (1000 * 65535) → c ≤ valueLimit
+unfolding triangle
+limit-of n c few h = le-trans h (mul-le-mul-right {m = triangle n} {n = 1830} (1000 * 65535) (triangle-mono n 60 few))
+
 module _ (q : Queue) (v : Valid q) where
   within-limit : (k : List ℕ) → IsLeft (problem q) k → (c : ℕ) → c ≤ triangle (sum k) * (1000 * 65535) → c ≤ valueLimit
-  unfolding triangle
-  within-limit k s c h =
-      let few : sum k ≤ 60 = omega (arith, left-small (problem q) k s, few-jobs q v) in
-      le-trans h (mul-le-mul-right {m = triangle (sum k)} {n = 1830} (1000 * 65535) (triangle-mono (sum k) 60 few))
+  within-limit k s c = limit-of (sum k) c (omega (arith, left-small (problem q) k s, few-jobs q v))
 
   -- no value is above the number
   pub value-limit : (L : ℕ) (k : List ℕ) (c : ℕ) → IsPair (problem q) L k → value (problem q) L k ≡ some c → c ≤ valueLimit

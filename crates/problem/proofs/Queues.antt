@@ -33,7 +33,7 @@ use Rattle.problem.proofs.Rule.{jobs-is, exchange, proper}
 use Rattle.problem.proofs.Bounds.{value-limit, plan-limit, limit-fits}
 
 -- what is at most 1000 × 65535 × 1830 fits six groups of seven bits and is not 2^64 − 1
-fits : (c : ℕ) → c ≤ valueLimit → (c ≤ valueLimit) × (c < 2 ^ 42) × (c < 2 ^ 64 - 1)
+pub fits : (c : ℕ) → c ≤ valueLimit → (c ≤ valueLimit) × (c < 2 ^ 42) × (c < 2 ^ 64 - 1)
 fits c h = (h, omega (arith, limit-fits), omega (arith, limit-fits))
 
 module _ (q : Queue) (valid : Valid q) where

@@ -10,7 +10,7 @@ use lib.ListN.{getD, drop}
 use Rattle.sequencing.specs.Lists.{from, count, filter}
 use Rattle.sequencing.proofs.Counting.{one-cases}
 
-pub Asc : ℕ → List ℕ → Type 0
+unfoldable pub Asc : ℕ → List ℕ → Type 0
 Asc b [] = Unit {0}
 Asc b (x ∷ xs) = (b < x) × Asc x xs
 

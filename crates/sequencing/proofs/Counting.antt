@@ -52,6 +52,12 @@ getD-filter p (x ∷ xs) (suc r) h = elim (dichotomy (p x)) [
   | inl e ↦ rw e (getD-filter p xs (suc r) (rw e at h))
 ]
 
+pub count-at : (xs : List ℕ) (a : ℕ) → a < length xs → 0 < count (getD xs a 0) xs
+unfolding count
+count-at [] a h = absurd (omega arith)
+count-at (x ∷ xs) zero h = omega (arith, one-self x)
+count-at (x ∷ xs) (suc a) h = omega (arith, count-at xs a (omega arith))
+
 pub count-drop : (z r : ℕ) (xs : List ℕ) → count z (drop r xs) ≤ count z xs
 unfolding count
 count-drop z zero xs = omega arith

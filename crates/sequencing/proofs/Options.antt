@@ -29,6 +29,10 @@ abbrev pub Upto : ℕ → Option ℕ → Type 0
 Upto c none = ⊥
 Upto c (some d) = d ≤ c
 
+pub upto-some : (c : ℕ) (r : Option ℕ) → Upto c r → (d : ℕ) × (r ≡ some d) × (d ≤ c)
+upto-some c none p = absurd p
+upto-some c (some d) p = (d, refl, p)
+
 pub upto-only : (c : ℕ) (b : Bool) (r : Option ℕ) → Is b → Upto c r → Upto c (only b r)
 upto-only c true r t h = h
 upto-only c false r t h = absurd t

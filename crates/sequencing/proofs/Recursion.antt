@@ -2,7 +2,7 @@
 -- Assumes nothing.
 use mathlib.Core.List.{List, [], _∷_}
 use mathlib.Core.Option.{some}
-use mathlib.Core.Path.{_≡_, sym, ap, _∙_}
+use mathlib.Core.Path.{_≡_, refl, sym, ap, _∙_}
 use Prim.Native.Nat.{ℕ, zero, suc, _+_, _*_, _<_}
 use native.Mathlib.Omega.{arith}
 use lib.Dec.{T as Is, ltb, ltb→lt, lt→ltb}
@@ -11,6 +11,7 @@ use Rattle.sequencing.specs.Problem.{Problem}
 use Rattle.sequencing.specs.States.{complete, K, IsLeft, job, place}
 use Rattle.sequencing.specs.Least.{only, plus, argLeast}
 use Rattle.sequencing.specs.Recursion.{W, costToGo, value, choice, walk}
+use Rattle.sequencing.specs.Following.{walkBy}
 use Rattle.sequencing.proofs.Vectors.{complete-sum, at-in}
 use Rattle.sequencing.proofs.JobsLeft.{complete-left, complete-below}
 use Rattle.sequencing.proofs.Fills.{Fills}
@@ -46,6 +47,12 @@ module _ (P : Problem) where
       let (b, o, e′) = value-some x (complete k x) d v in
       let r = walk-is n x (complete k x) d (omega (arith, complete-sum k x h)) e′ in
       ((h, o, r .0), q ∙ ap (λ d. W P k * P .gap L x + d) (r .1))
+
+  -- where its first kind is the choice from (L; k), a walk by that kind is this walk
+  pub walk-by : (n L : ℕ) (k : List ℕ) (x : ℕ) → (0 < n → x ≡ argLeast (choice P L k) (P .N)) → walk P n L k ≡ walkBy P n x k
+  unfolding walk walkBy
+  walk-by zero L k x h = refl
+  walk-by (suc n) L k x h = rw (h (omega arith))
 
   pub value-upto : (L : ℕ) (k : List ℕ) (c : ℕ) → at k L < K P L → Is (P .ok (job P L k) (place P k)) → Upto c (costToGo P L k) → Upto c (value P L k)
   unfolding value

@@ -2,9 +2,9 @@
 -- Assumes nothing.
 use mathlib.Core.List.{List, [], _∷_, map}
 use mathlib.Core.Logic.{inl, inr}
-use mathlib.Core.Option.{Option, none, some}
+use mathlib.Core.Option.{some}
 use mathlib.Core.Path.{_≡_, refl, sym, _∙_}
-use Prim.Native.Nat.{ℕ, zero, suc, _≤_, _<_}
+use Prim.Native.Nat.{ℕ, zero, suc, _<_}
 use native.Mathlib.Omega.{arith}
 use Rattle.sequencing.specs.Lists.{sum}
 use Rattle.sequencing.specs.Problem.{Problem, kind, Proper, Exchange}
@@ -19,15 +19,11 @@ use Rattle.sequencing.proofs.AllJobs.{all-left}
 use Rattle.sequencing.proofs.JobsLeft.{complete-left}
 use Rattle.sequencing.proofs.Fills.{Fills}
 use Rattle.sequencing.proofs.Costs.{bySteps, cost-is}
-use Rattle.sequencing.proofs.Options.{Upto}
+use Rattle.sequencing.proofs.Options.{upto-some}
 use Rattle.sequencing.proofs.Least.{smallest}
 use Rattle.sequencing.proofs.Equations.{cost-some-left}
 use Rattle.sequencing.proofs.Recursion.{value-some, choice-some, choice-upto, cost-upto}
 use Rattle.sequencing.proofs.Best.{order-fills}
-
-upto-some : (c : ℕ) (r : Option ℕ) → Upto c r → (d : ℕ) × (r ≡ some d) × (d ≤ c)
-upto-some c none p = absurd p
-upto-some c (some d) p = (d, refl, p)
 
 module _ (P : Problem) where
   walk-ties : (n L : ℕ) (k : List ℕ) (c : ℕ) → sum k ≡ n → costToGo P L k ≡ some c → TieRule P L k (walk P n L k)

@@ -6,8 +6,8 @@ use mathlib.Core.Path.{_≡_, refl, ap}
 use Prim.Native.Nat.{ℕ, zero, suc, pred, _+_, _-_, _≤_, _<_}
 use native.Mathlib.Nat.{suc-mul}
 use native.Mathlib.Omega.{arith}
-use lib.ListN.{length, getD, set, length-set}
-use lib.Seq.{getD-set-same, getD-set-other}
+use lib.ListN.{length, getD, take, set, length-set}
+use lib.Seq.{getD-take, getD-set-same, getD-set-other}
 use Rattle.sequencing.specs.Lists.{at, sum, weigh, one}
 use Rattle.sequencing.specs.States.{complete}
 use Rattle.sequencing.proofs.Counting.{one-cases}
@@ -16,6 +16,10 @@ use Rattle.sequencing.proofs.Counting.{one-cases}
 pub at-minus : (xs : List ℕ) (x : ℕ) → 1 ≤ x → at xs x ≡ getD xs (x - 1) 0
 at-minus xs zero h = absurd (omega arith)
 at-minus xs (suc i) h = ap (λ (n : ℕ). getD xs n 0) (omega arith)
+
+pub at-take : (n : ℕ) (xs : List ℕ) (x : ℕ) → x ≤ n → at (take n xs) x ≡ at xs x
+at-take n xs zero h = refl
+at-take n xs (suc i) h = getD-take n xs i 0 h
 
 set-sum : (k : List ℕ) (i : ℕ) → 0 < getD k i 0 → suc (sum (set k i (pred (getD k i 0)))) ≡ sum k
 unfolding sum

@@ -47,6 +47,10 @@ module _ (P : Problem) where
   abbrev pub entries : ℕ
   entries = P .N * block
 
+  -- the k of this queue whose index is i
+  abbrev pub kAt : ℕ → List ℕ
+  kAt i = digits (allLeft P) i
+
   -- where (L; k) stands, by 01's formula: (L − 1) × P + k_1 + (K_1 + 1) × (k_2 + ..)
   unfoldable pub number : ℕ → List ℕ → ℕ
   number L k = pred L * block + index (allLeft P) k
@@ -57,7 +61,7 @@ module _ (P : Problem) where
 
   -- k of that pair
   unfoldable pub entryLeft : ℕ → List ℕ
-  entryLeft n = digits (allLeft P) (n % block)
+  entryLeft n = kAt (n % block)
 
   -- the value that entry n holds: its pair's, none where that is none, so also where k_L = K_L
   abbrev pub entry : ℕ → Option ℕ

@@ -4,6 +4,7 @@ pub mod Orders
 pub mod States
 pub mod Least
 pub mod Recursion
+pub mod Following
 pub mod Feasible
 pub mod Ties
 pub mod Entries

@@ -30,6 +30,10 @@ module _ (P : Problem) where
   abbrev pub Proper : Type 0
   Proper = (i : ℕ) → 1 ≤ i → i ≤ T → (1 ≤ kind i) × (kind i ≤ P .N)
 
+  -- each job is permitted at each place from 1 to T
+  abbrev pub AllPermitted : Type 0
+  AllPermitted = (i p : ℕ) → 1 ≤ i → i ≤ T → 1 ≤ p → p ≤ T → Is (P .ok i p)
+
   -- the exchange law: two jobs of one kind, permitted with the later one first, are permitted by hand-in too
   abbrev pub Exchange : Type 0
   Exchange =

@@ -15,7 +15,8 @@ use Rattle.sequencing.specs.Problem.{Problem}
 use Rattle.sequencing.specs.States.{complete, K, allLeft, jobsOf}
 use Rattle.sequencing.specs.Least.{argLeast}
 use Rattle.sequencing.specs.Recursion.{choice}
-use Rattle.sequencing.specs.Entries.{stride}
+use Rattle.sequencing.specs.Following.{walkBy, byHandInUpto}
+use Rattle.sequencing.specs.Entries.{kAt, stride}
 use Rattle.sequencing.proofs.Counting.{one-self}
 use Rattle.sequencing.proofs.Vectors.{at-minus, complete-sum, complete-weigh, at-complete}
 use Rattle.problem.specs.OfQueue.{problem}
@@ -24,7 +25,7 @@ use Rattle.jobs_left.proofs.LeftAt.{left-at, complete-digits, stride-earlier, l
 use Rattle.layout.specs.declared.Layout.{Layout}
 use Rattle.layout.proofs.Prepared.{counts-at, stride-at, jobs-at, job-in}
 use Rattle.next_states.specs.declared.Least.{Least}
-use Rattle.solver.specs.Following.{kAt, byHandInUpto, Takes, Share, walkBy, Followed}
+use Rattle.solver.specs.Following.{Takes, Share, Followed}
 use Rattle.solver.proofs.Walking.{Chosen, takes-next, found-after, by-hand-more, by-hand-none}
 
 -- the jobs of n places with k left, the first of them of kind x

@@ -12,7 +12,7 @@ use Rattle.queue.specs.declared.Queue.{Queue}
 use Rattle.queue.specs.Record.{weight, Valid}
 use Rattle.sequencing.specs.Lists.{sum, weigh}
 use Rattle.sequencing.specs.Recursion.{W}
-use Rattle.sequencing.specs.Entries.{block, entries, stored}
+use Rattle.sequencing.specs.Entries.{kAt, block, entries, stored}
 use Rattle.sequencing.proofs.AllJobs.{left-small}
 use Rattle.sequencing.proofs.Entries.{left-digits}
 use Rattle.sequencing.proofs.Vectors.{at-sum}
@@ -27,7 +27,6 @@ use Rattle.next_states.specs.declared.Least.{Least}
 use Rattle.next_states.specs.NextStates.{nextValues, candidate, Loadable, Ready, IsLeast}
 use Rattle.filling.specs.Filling.{Earlier}
 use Rattle.filling.proofs.Values.{Look, loadable, ready, least-is, taken-is}
-use Rattle.solver.specs.Following.{kAt}
 use Rattle.solver.proofs.Walking.{Chosen}
 
 -- no more jobs are left than there are

@@ -14,7 +14,8 @@ use Rattle.sequencing.specs.Lists.{at, sum}
 use Rattle.sequencing.specs.States.{allLeft}
 use Rattle.sequencing.specs.Least.{argLeast}
 use Rattle.sequencing.specs.Recursion.{choice, walk, planCost, planKinds, planOrder}
-use Rattle.sequencing.specs.Entries.{size, index, digits, stored}
+use Rattle.sequencing.specs.Following.{byHandInUpto}
+use Rattle.sequencing.specs.Entries.{size, index, digits, kAt, stored}
 use Rattle.sequencing.proofs.AllJobs.{length-all, all-left, sum-all}
 use Rattle.sequencing.proofs.Radix.{size-pos, digits-index}
 use Rattle.sequencing.proofs.Recursion.{walk-is}
@@ -27,7 +28,7 @@ use Rattle.layout.specs.Prepared.{Prepared}
 use Rattle.layout.proofs.Prepared.{counts-at, counts-take, counts-long}
 use Rattle.next_states.specs.declared.Least.{Least}
 use Rattle.solver.specs.Solving.{FirstChoice}
-use Rattle.solver.specs.Following.{Takes, byHandInUpto, kAt}
+use Rattle.solver.specs.Following.{Takes}
 use Rattle.solver.proofs.Walking.{some-cost, Chosen, takes-next, upto-all}
 
 index-last : (cs : List ℕ) → suc (index cs cs) ≡ size cs

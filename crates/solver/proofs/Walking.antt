@@ -1,6 +1,6 @@
 -- Following the recursion: the kind taken next, what is found from there, and the jobs of a share.
 -- Assumes nothing.
-use Prim.Native.Nat.{ℕ, zero, suc, _-_, _≤_, _<_}
+use Prim.Native.Nat.{ℕ, _-_, _≤_, _<_}
 use mathlib.Core.List.{List, [], _∷_}
 use mathlib.Core.Option.{Option, none, some}
 use mathlib.Core.Path.{_≡_, refl, sym, _∙_}
@@ -9,17 +9,18 @@ use Rattle.sequencing.specs.Lists.{at, sum}
 use Rattle.sequencing.specs.Problem.{Problem}
 use Rattle.sequencing.specs.States.{complete, K, IsLeft, jobsOf, byHandIn}
 use Rattle.sequencing.specs.Least.{least, argLeast}
-use Rattle.sequencing.specs.Recursion.{value, choice, walk}
+use Rattle.sequencing.specs.Recursion.{value, choice}
+use Rattle.sequencing.specs.Following.{walkBy, byHandInUpto}
 use Rattle.sequencing.specs.Entries.{stored}
 use Rattle.sequencing.proofs.Equations.{cost-some-left}
 use Rattle.sequencing.proofs.Fills.{Fills}
 use Rattle.sequencing.proofs.JobsLeft.{complete-left}
 use Rattle.sequencing.proofs.Least.{smallest}
-use Rattle.sequencing.proofs.Recursion.{value-some, choice-some}
+use Rattle.sequencing.proofs.Recursion.{value-some, choice-some, walk-by}
 use Rattle.sequencing.proofs.Vectors.{complete-sum, at-in}
 use Rattle.units.specs.Costs.{costIn}
 use Rattle.next_states.specs.declared.Least.{Least}
-use Rattle.solver.specs.Following.{byHandInUpto, Takes, walkBy}
+use Rattle.solver.specs.Following.{Takes}
 
 pub some-cost : (r : Option ℕ) → (r ≡ none → ⊥) → (c : ℕ) × (r ≡ some c)
 some-cost none h = absurd (h refl)
@@ -50,19 +51,13 @@ module _ (P : Problem) where
       let (c, e) = some-cost (value P x (complete k x)) (t .found) in
       (c, sym (cost-some-left P x (complete k x) h) ∙ value-some P x (complete k x) c e .2)
 
-  -- where the first of them is the choice from (L; k), this is the recursion's own walk
-  pub walk-by : (n L : ℕ) (k : List ℕ) (x : ℕ) → (0 < n → x ≡ argLeast (choice P L k) (P .N)) → walk P n L k ≡ walkBy P n x k
-  unfolding walk walkBy
-  walk-by zero L k x h = refl
-  walk-by (suc n) L k x h = rw (h (omega arith))
-
   module _ (m : List ℕ) where
     -- the jobs of such a walk: the first, and those of the walk from there
     pub by-hand-more : (k : List ℕ) (x y : ℕ) → 0 < at k x → (0 < sum (complete k x) → y ≡ argLeast (choice P x (complete k x)) (P .N))
         → byHandInUpto P m k (walkBy P (sum k) x k)
         ≡ at (jobsOf P x) (at m x - at (complete k x) x) ∷ byHandInUpto P m (complete k x) (walkBy P (sum (complete k x)) y (complete k x))
     unfolding walkBy byHandInUpto
-    by-hand-more k x y h e = rw (← (complete-sum k x h), walk-by (sum (complete k x)) x (complete k x) y e)
+    by-hand-more k x y h e = rw (← (complete-sum k x h), walk-by P (sum (complete k x)) x (complete k x) y e)
 
     pub by-hand-none : (n x : ℕ) (k : List ℕ) → n ≡ 0 → byHandInUpto P m k (walkBy P n x k) ≡ []
     unfolding walkBy byHandInUpto

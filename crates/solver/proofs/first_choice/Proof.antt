@@ -5,12 +5,11 @@ use Prim.Native.Nat.{_-_}
 use lib.ListN.{length}
 use Rattle.queue.specs.Record.{weight}
 use Rattle.sequencing.specs.Lists.{weigh}
-use Rattle.sequencing.specs.Entries.{stored}
+use Rattle.sequencing.specs.Entries.{kAt, stored}
 use Rattle.problem.specs.OfQueue.{problem}
 use Rattle.problem.proofs.Queues.{plan-no-jobs}
 use Rattle.layout.proofs.Prepared.{strides-long}
 use Rattle.filling.proofs.Values.{Look}
-use Rattle.solver.specs.Following.{kAt}
 use Rattle.solver.proofs.Looking.{may-weigh, weighed, whole, may-look, looked}
 use Rattle.solver.proofs.Start.{some-block, start-left, first-choice}
 use borrow.Author.Needs.{needs}

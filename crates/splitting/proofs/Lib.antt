@@ -1,0 +1,14 @@
+pub mod Lists
+pub mod Bridge
+pub mod Shares
+pub mod Counts
+pub mod Least
+pub mod Precedes
+pub mod Best
+pub mod Limits
+pub mod Table
+pub mod Scan
+pub mod ByIndex
+pub mod Covered
+pub mod Queues
+pub mod Cases
