@@ -3,8 +3,7 @@
 use Prim.Native.Nat.{ℕ, suc, _-_, _≤_, _<_}
 use mathlib.Core.Bool.{cond}
 use mathlib.Core.List.{List}
-use mathlib.Core.Option.{some}
-use mathlib.Core.Path.{_≡_, refl, sym, ap, _∙_}
+use mathlib.Core.Path.{_≡_, sym, ap, _∙_}
 use native.Mathlib.Omega.{arith}
 use borrow.Author.Tests.{eq-eqb}
 use lib.Dec.{eqb}
@@ -13,7 +12,7 @@ use Rattle.queue.specs.declared.Queue.{Queue}
 use Rattle.queue.specs.Record.{weight, Valid}
 use Rattle.sequencing.specs.Lists.{sum, weigh}
 use Rattle.sequencing.specs.Recursion.{W, toGo, costToGo}
-use Rattle.sequencing.specs.Entries.{kAt, block, entries, stored}
+use Rattle.sequencing.specs.Entries.{kAt, block, entries}
 use Rattle.sequencing.proofs.AllJobs.{left-small}
 use Rattle.sequencing.proofs.Entries.{left-digits}
 use Rattle.sequencing.proofs.Equations.{cost-some-left}
