@@ -2,4 +2,5 @@ pub mod Values
 pub mod Entered
 pub mod States
 pub mod Tables
+pub mod Counting
 pub mod UpTo

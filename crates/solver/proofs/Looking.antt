@@ -3,7 +3,7 @@
 use Prim.Native.Nat.{ℕ, suc, _-_, _≤_, _<_}
 use mathlib.Core.Bool.{cond}
 use mathlib.Core.List.{List}
-use mathlib.Core.Path.{_≡_, ap, _∙_}
+use mathlib.Core.Path.{_≡_, sym, ap, _∙_}
 use native.Mathlib.Omega.{arith}
 use borrow.Author.Tests.{eq-eqb}
 use lib.Dec.{eqb}
@@ -11,13 +11,15 @@ use lib.ListN.{length, getD, take}
 use Rattle.queue.specs.declared.Queue.{Queue}
 use Rattle.queue.specs.Record.{weight, Valid}
 use Rattle.sequencing.specs.Lists.{sum, weigh}
-use Rattle.sequencing.specs.Recursion.{W}
-use Rattle.sequencing.specs.Entries.{kAt, block, entries, stored}
+use Rattle.sequencing.specs.Recursion.{W, toGo, costToGo}
+use Rattle.sequencing.specs.Entries.{kAt, block, entries}
 use Rattle.sequencing.proofs.AllJobs.{left-small}
 use Rattle.sequencing.proofs.Entries.{left-digits}
+use Rattle.sequencing.proofs.Equations.{cost-some-left}
 use Rattle.sequencing.proofs.Vectors.{at-sum}
 use Rattle.problem.specs.OfQueue.{problem}
 use Rattle.problem.proofs.Rule.{few-jobs}
+use Rattle.jobs_left.specs.declared.JobsLeft.{JobsLeft}
 use Rattle.jobs_left.specs.Steps.{LeftAt}
 use Rattle.jobs_left.proofs.LeftAt.{left-at}
 use Rattle.layout.specs.declared.Layout.{Layout}
@@ -27,7 +29,8 @@ use Rattle.next_states.specs.declared.Least.{Least}
 use Rattle.next_states.specs.NextStates.{nextValues, candidate, Loadable, Ready, IsLeast}
 use Rattle.filling.specs.Filling.{Earlier}
 use Rattle.filling.proofs.Values.{Look, loadable, ready, least-is, taken-is}
-use Rattle.solver.proofs.Walking.{Chosen}
+use Rattle.solver.specs.Looking.{LooksAt, LookedUp}
+use Rattle.solver.proofs.Walking.{some-cost, Chosen}
 
 -- no more jobs are left than there are
 pub few-left : {q : Queue} → Valid q → (i : ℕ) → sum (kAt (problem q) i) ≤ 60
@@ -79,3 +82,48 @@ module _ {q : Queue} {l : Layout} {table left : List ℕ} {i : ℕ} (look : Look
         kind-is = λ c e. f .kind-is c (least-is look row ∙ e) ∙ taken-is look row c e;
         no-kind = λ e. f .no-kind (least-is look row ∙ e);
       }
+
+-- a look, by its arrays
+module _ {q : Queue} {l : Layout} {table left strides gaps : List ℕ} {size goal : ℕ} {k : JobsLeft} (a : LooksAt q l table left strides gaps size goal k) where
+  as-look : Look q l table left (k .index)
+  as-look = whole (a .valid) (a .prepared) (a .left-is) (rw (a .gaps-are) at (a .gaps-long)) (a .filled) (a .room)
+
+  jobs-are : k .jobs ≡ sum (kAt (problem q) (k .index))
+  jobs-are = a .sums-are .jobs-are ∙ ap sum (a .left-is .here)
+
+  weight-is : k .weight ≡ weigh (weight q) (kAt (problem q) (k .index))
+  weight-is = a .sums-are .weight-is ∙ ap (weigh (weight q)) (a .left-is .here)
+
+  module _ (row : ℕ) {r : Least} where
+    -- nothing is left
+    pub found-nothing : k .jobs ≡ 0 → r .cost ≡ costIn goal 0 → r .kind ≡ 0 → LookedUp q row (kAt (problem q) (k .index)) r
+    unfolding toGo
+    found-nothing none cost kind =
+        let e : sum (kAt (problem q) (k .index)) ≡ 0 = sym jobs-are ∙ none in
+        record {
+          cost-is = cost ∙ rw (e, a .goal-is);
+          kind-is = λ h _. absurd (omega arith);
+          no-order = λ _. kind;
+          no-jobs = λ _. kind;
+        }
+
+  module _ {w : ℕ} (step : w ≡ cond (eqb goal 1) 1 (k .weight)) (row : ℕ) where
+    own-step : w ≡ cond (eqb (q .goal) 1) 1 (k .weight)
+    own-step = rw (a .goal-is) at step
+
+    pub may-look-at : row ≤ q .kinds
+        → Loadable table left strides size (k .index) × (Ready (nextValues table left strides size (k .index)) gaps row w × (goal ≡ 1 → w ≡ 1))
+    may-look-at u = rw (a .strides-are, a .gaps-are, a .size-is, a .goal-is) (may-look as-look weight-is own-step row u)
+
+    -- something is left
+    pub found-there : {r : Least} → (k .jobs ≡ 0 → ⊥) → IsLeast goal (candidate (nextValues table left strides size (k .index)) gaps row w) r
+        → LookedUp q row (kAt (problem q) (k .index)) r
+    found-there some-left found =
+        let f = looked as-look weight-is own-step row (rw (a .strides-are, a .gaps-are, a .size-is, a .goal-is) at found) in
+        let e = cost-some-left (problem q) row (kAt (problem q) (k .index)) (omega (arith, jobs-are)) in
+        record {
+          cost-is = f .cost-is ∙ rw e;
+          kind-is = λ _ some-order. let (c, g) = some-cost (costToGo (problem q) row (kAt (problem q) (k .index))) some-order in f .kind-is c (sym e ∙ g);
+          no-order = λ n. f .no-kind (sym e ∙ n);
+          no-jobs = λ z. absurd (some-left (jobs-are ∙ z));
+        }

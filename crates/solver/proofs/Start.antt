@@ -6,30 +6,31 @@ use mathlib.Core.Option.{none}
 use mathlib.Core.Path.{_≡_, refl, sym, ap, _∙_}
 use native.Mathlib.Nat.{mul-suc}
 use native.Mathlib.Omega.{arith}
-use lib.ListN.{getD}
+use lib.ListN.{getD, take}
 use Rattle.fields.proofs.Arrays.{filled-past}
 use Rattle.queue.specs.declared.Queue.{Queue}
-use Rattle.queue.specs.Record.{Valid}
-use Rattle.sequencing.specs.Lists.{at, sum}
+use Rattle.queue.specs.Record.{weight, Valid}
+use Rattle.sequencing.specs.Lists.{at, sum, weigh}
 use Rattle.sequencing.specs.States.{allLeft}
 use Rattle.sequencing.specs.Least.{argLeast}
 use Rattle.sequencing.specs.Recursion.{choice, walk, planCost, planKinds, planOrder}
 use Rattle.sequencing.specs.Following.{byHandInUpto}
-use Rattle.sequencing.specs.Entries.{size, index, digits, kAt, stored}
+use Rattle.sequencing.specs.Entries.{size, index, digits, kAt}
 use Rattle.sequencing.proofs.AllJobs.{length-all, all-left, sum-all}
 use Rattle.sequencing.proofs.Radix.{size-pos, digits-index}
 use Rattle.sequencing.proofs.Recursion.{walk-is}
 use Rattle.problem.specs.OfQueue.{problem}
 use Rattle.problem.proofs.Rule.{jobs-is, proper}
 use Rattle.problem.proofs.Queues.{plan-some-jobs}
-use Rattle.jobs_left.specs.Steps.{LeftAt}
+use Rattle.jobs_left.specs.Steps.{Summed, LeftAt}
 use Rattle.layout.specs.declared.Layout.{Layout}
 use Rattle.layout.specs.Prepared.{Prepared}
 use Rattle.layout.proofs.Prepared.{counts-at, counts-take, counts-long}
 use Rattle.next_states.specs.declared.Least.{Least}
+use Rattle.solver.specs.Looking.{LookedUp}
 use Rattle.solver.specs.Solving.{FirstChoice}
 use Rattle.solver.specs.Following.{Takes}
-use Rattle.solver.proofs.Walking.{some-cost, Chosen, takes-next, upto-all}
+use Rattle.solver.proofs.Walking.{some-cost, takes-next, upto-all}
 
 index-last : (cs : List ℕ) → suc (index cs cs) ≡ size cs
 unfolding index size
@@ -64,16 +65,23 @@ module _ {q : Queue} {l : Layout} (v : Valid q) (p : Prepared q l) where
   pub start-places : q .jobs ≡ sum (kAt (problem q) (l .size .block - 1))
   start-places = rw last-is (sym (all-jobs v))
 
+  -- their sums
+  pub start-sums : {w : ℕ} → w ≡ weigh (weight q) (take (l .size .kinds) (l .counts)) → Summed (q .weights) (take (q .kinds) (l .counts)) (l .size .jobs) w
+  start-sums e = record {
+    jobs-are = p .jobs-are ∙ sym (all-jobs v) ∙ ap sum (sym (counts-take v p));
+    weight-is = e ∙ rw (p .kinds-are);
+  }
+
   -- what is found there is the plan's cost and its first kind
-  pub first-choice : 0 < q .jobs → {r : Least} → Chosen (problem q) (q .goal) (q .start) (kAt (problem q) (l .size .block - 1)) r → FirstChoice q r
-  first-choice h chosen =
-      let f = rw last-is at chosen in
-      let e = plan-some-jobs q v h in
+  pub first-choice : {r : Least} → LookedUp q (q .start) (kAt (problem q) (l .size .block - 1)) r → FirstChoice q r
+  unfolding planCost
+  first-choice found =
+      let f = rw last-is at found in
       record {
-        cost-is = f .cost-is ∙ rw e;
-        kind-is = λ _ some-plan. let (c, g) = some-cost (planCost (problem q)) some-plan in f .kind-is c (sym e ∙ g);
-        no-plan = λ n. f .no-kind (sym e ∙ n);
-        no-jobs = λ z. absurd (omega arith);
+        cost-is = f .cost-is;
+        kind-is = λ h some-plan. f .kind-is (omega (arith, all-jobs v)) some-plan;
+        no-plan = f .no-order;
+        no-jobs = λ z. f .no-jobs (all-jobs v ∙ z);
       }
 
   module _ (some-plan : planCost (problem q) ≡ none → ⊥) where

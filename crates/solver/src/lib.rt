@@ -1,16 +1,20 @@
 // Solving a queue: the table filled, the best cost from the start, and the order that reaches it.
+use jobs_left::JobsLeft;
 use layout::Layout;
 use next_states::Least;
 use queue::Queue;
 ghost use mathlib.Core.Path.{_≡_};
-ghost use Prim.Native.Nat.{_+_, _-_, _≤_, _<_};
+ghost use Prim.Native.Nat.{ℕ, _+_, _-_, _≤_, _<_};
 ghost use lib.ListN.{length, getD, set};
+ghost use Rattle.queue.specs.declared.Queue.{Queue};
 ghost use Rattle.queue.specs.Record.{Valid};
-ghost use Rattle.sequencing.specs.Entries.{block, entries, FilledTable};
+ghost use Rattle.sequencing.specs.Entries.{kAt, block, entries, FilledTable};
 ghost use Rattle.sequencing.specs.Counts.{feasibleStates};
 ghost use Rattle.problem.specs.OfQueue.{problem};
+ghost use Rattle.layout.specs.declared.Layout.{Layout};
 ghost use Rattle.layout.specs.Prepared.{Prepared};
 ghost use Rattle.filling.specs.Filling.{Earlier};
+ghost use Rattle.solver.specs.Looking.{LooksAt, LookedUp};
 ghost use Rattle.solver.specs.Solving.{FirstChoice};
 ghost use Rattle.solver.specs.Following.{Share, Followed};
 
@@ -20,33 +24,66 @@ pub struct Solution {
     pub feasible_states: u64,
 }
 
+// A look into a filled table of a queue from a row (a kind, or 0 for the cold cutter), with any k left: the cost of what is left, which is 0 where nothing
+// is, and the next kind.
+pub fn look(
+    table: &[u64],
+    left: &[u32],
+    strides: &[usize],
+    gaps: &[u32],
+    block: usize,
+    goal: u32,
+    k: JobsLeft,
+    row: usize,
+) -> Least
+    requires { ⌜ ((q : Queue) × (l : Layout) × (LooksAt q l (now table) (now left) (now strides) (now gaps) block goal k × (row ≤ q .kinds))) ⌝ }
+    ensures { λ r. ⌜ ((q : Queue) (l : Layout) → LooksAt q l (now (table .entry)) (now (left .entry)) (now (strides .entry)) (now (gaps .entry)) block goal k → LookedUp q row (kAt (problem q) (k .index)) r) ⌝ }
+{
+    if k.jobs == 0 {
+        return Least {
+            cost: units::cost_in(goal, 0),
+            kind: 0,
+        };
+    }
+    let weight = jobs_left::step_weight(goal, k.weight);
+    next_states::best_next(
+        table,
+        left,
+        strides,
+        gaps,
+        block,
+        k.index,
+        row,
+        goal,
+        weight,
+    )
+}
+
 // The first choice by a filled table: the plan's cost and its first kind, 0 where there is none.
 fn first_choice(queue: Queue, layout: Layout, table: &[u64]) -> Least
     requires { ⌜ Valid queue × (Prepared queue layout × (Earlier (problem queue) (now table) (block (problem queue)) × (entries (problem queue) ≤ length (now table)))) ⌝ }
     ensures { λ r. ⌜ FirstChoice queue r ⌝ }
 {
-    if queue.jobs == 0 {
-        return Least {
-            cost: units::cost_in(queue.goal, 0),
-            kind: 0,
-        };
-    }
     let size = layout.size;
     let gaps = queue.gaps;
     let weights = queue.weights;
     let counts = layout.counts;
     let strides = layout.strides;
-    let weight = jobs_left::weight_left(&counts, &weights, size.kinds);
-    next_states::best_next(
+    let all = JobsLeft {
+        index: size.block - 1,
+        jobs: size.jobs,
+        weight: jobs_left::weight_left(&counts, &weights, size.kinds),
+    };
+    let row = queue.start as usize;
+    look(
         table,
         &counts,
         &strides,
         &gaps,
         size.block,
-        size.block - 1,
-        queue.start as usize,
         queue.goal,
-        jobs_left::step_weight(queue.goal, weight),
+        all,
+        row,
     )
 }
 

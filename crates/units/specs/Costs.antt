@@ -1,5 +1,5 @@
 -- Costs in their goal's own unit.
-use Prim.Native.Nat.{ℕ}
+use Prim.Native.Nat.{ℕ, _+_, max}
 use mathlib.Core.Bool.{Bool, true, false, cond}
 use lib.Dec.{eqb}
 use Rattle.units.specs.declared.Cost.{Cost}
@@ -18,3 +18,8 @@ numberOf (InPupilSeconds p) = p .0
 abbrev pub inSeconds : Cost → Bool
 inSeconds (InSeconds s) = true
 inSeconds (InPupilSeconds p) = false
+
+-- 02's cost of both cutters, in one unit: the later of two times in seconds, the sum of both in pupil-seconds
+abbrev pub together : Cost → Cost → Cost
+together (InSeconds a) b = InSeconds (record { 0 = max (a .0) (numberOf b) })
+together (InPupilSeconds a) b = InPupilSeconds (record { 0 = a .0 + numberOf b })

@@ -1,8 +1,8 @@
 // The two measures, which never meet in a sum or a comparison: times in seconds, and pupil-seconds, a weight times seconds.
 ghost use mathlib.Core.Path.{_≡_};
-ghost use Prim.Native.Nat.{_+_, _*_, _^_, _<_};
+ghost use Prim.Native.Nat.{max, _+_, _*_, _^_, _<_};
 ghost use lib.Dec.{ltb};
-ghost use Rattle.units.specs.Costs.{costIn, numberOf, inSeconds};
+ghost use Rattle.units.specs.Costs.{costIn, numberOf, inSeconds, together};
 
 // Seconds: gaps, finishes and the cost under goal 1.
 pub struct Seconds(pub u64);
@@ -36,6 +36,16 @@ impl Seconds {
         ensures { λ r. ⌜ r ≡ ltb (self .0) (seconds .0) ⌝ }
     {
         self.0 < seconds.0
+    }
+
+    // The later of two times.
+    pub fn later(self, other: Seconds) -> Seconds
+        ensures { λ r. ⌜ r .0 ≡ max (self .0) (other .0) ⌝ }
+    {
+        if self.0 < other.0 {
+            return Seconds(other.0);
+        }
+        Seconds(self.0)
     }
 }
 
@@ -78,6 +88,23 @@ impl Cost {
             Cost::InPupilSeconds(a) => match other {
                 Cost::InSeconds(_) => false,
                 Cost::InPupilSeconds(b) => a.less(b),
+            },
+        }
+    }
+
+    // What two cutters' costs in one unit come to: the later in seconds, the sum in pupil-seconds; the other two arms are not met.
+    pub fn together(self, other: Cost) -> Cost
+        requires { ⌜ (inSeconds self ≡ inSeconds other) × (numberOf self + numberOf other < 2 ^ 64) ⌝ }
+        ensures { λ r. ⌜ r ≡ together self other ⌝ }
+    {
+        match self {
+            Cost::InSeconds(a) => match other {
+                Cost::InSeconds(b) => Cost::InSeconds(a.later(b)),
+                Cost::InPupilSeconds(_) => self,
+            },
+            Cost::InPupilSeconds(a) => match other {
+                Cost::InSeconds(_) => self,
+                Cost::InPupilSeconds(b) => Cost::InPupilSeconds(a.plus(b)),
             },
         }
     }

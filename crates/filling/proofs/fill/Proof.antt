@@ -5,7 +5,8 @@ use mathlib.Core.Path.{sym}
 use Rattle.layout.proofs.Prepared.{counts-long, slots-long, strides-long, earliest-long, latest-long}
 use Rattle.filling.proofs.Values.{Look}
 use Rattle.filling.proofs.Entered.{fillable}
-use Rattle.filling.proofs.UpTo.{Given, UpTo, upto-none, looking, may-step, count-fits, upto-more, upto-done}
+use Rattle.filling.proofs.Counting.{may-step}
+use Rattle.filling.proofs.UpTo.{Given, UpTo, upto-none, looking, count-fits, upto-more, upto-done}
 use borrow.Author.Needs.{needs}
 use Rattle.filling.proofs.fill.Statement.{statement}
 use Rattle.filling.proofs.fill.Tie as tie
@@ -52,7 +53,7 @@ slice-aggregate-fill-states-5 : tie.Need-slice-aggregate-fill-states-5 Inv-loop 
 slice-aggregate-fill-states-5 c = let s = look (lent (c .before .before .before .before)) in sym (latest-long (s .valid) (s .prepared))
 
 fill-states-requires : tie.Need-fill-states-requires Inv-loop μ-loop
-fill-states-requires c κs = let t = lent (c .before .before .before .before .before) in fillable _ (look t) (loop t .loop .inv .summed)
+fill-states-requires c κs = let t = lent (c .before .before .before .before .before) in fillable _ (look t) (loop t .loop .inv .counting .summed)
 
 add-feasible : tie.Need-add-feasible Inv-loop μ-loop
 add-feasible c =
@@ -66,7 +67,10 @@ slice-aggregate-step-left-3 : tie.Need-slice-aggregate-step-left-3 Inv-loop μ-l
 slice-aggregate-step-left-3 c = sym (given (copied (loop (turn (filled (c .before .before))) .before)) .weights-long)
 
 step-left-requires : tie.Need-step-left-requires Inv-loop μ-loop
-step-left-requires c κs = let t = turn (filled (c .before .before)) in may-step (given (copied (loop t .before))) (loop t .loop .inv) (t .if1 .taken)
+step-left-requires c κs =
+    let t = turn (filled (c .before .before)) in
+    let g = given (copied (loop t .before)) in
+    may-step (g .valid) (g .prepared) (loop t .loop .inv .counting) (t .if1 .taken) (g .weights-long)
 
 loop-again : tie.Need-loop-again Inv-loop μ-loop
 loop-again c =

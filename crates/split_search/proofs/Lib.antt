@@ -1,0 +1,4 @@
+pub mod Rest
+pub mod Costs
+pub mod Before
+pub mod Searching

@@ -1,0 +1,171 @@
+// The best split of a queue over two cutters, by its filled table: one pass over all counts of the first cutter, two looks for each.
+use jobs_left::JobsLeft;
+use layout::Layout;
+use layout::Size;
+use queue::Queue;
+use units::Cost;
+ghost use mathlib.Core.Path.{_≡_};
+ghost use Prim.Native.Nat.{ℕ, _-_, _≤_, _<_};
+ghost use lib.Dec.{T as Is};
+ghost use lib.ListN.{length, getD, take};
+ghost use Rattle.units.specs.Costs.{costIn, inSeconds};
+ghost use Rattle.queue.specs.declared.Queue.{Queue};
+ghost use Rattle.queue.specs.Record.{Valid};
+ghost use Rattle.sequencing.specs.Entries.{block, entries};
+ghost use Rattle.problem.specs.OfQueue.{problem};
+ghost use Rattle.splitting.specs.Covers.{covers};
+ghost use Rattle.splitting.specs.Scan.{isBefore, costAt};
+ghost use Rattle.layout.specs.declared.Layout.{Layout};
+ghost use Rattle.layout.specs.Prepared.{Prepared};
+ghost use Rattle.filling.specs.Filling.{Earlier};
+ghost use Rattle.split_search.specs.Searching.{SplitsAt, firstOf, Best};
+
+// A split by its counts: what both cutters cost, NONE of its unit where either has no order, and how many of each kind the first cutter has, with their
+// index.
+pub struct Split {
+    pub cost: Cost,
+    pub index: usize,
+    pub counts: [u32; 5],
+}
+
+// What is the same for all splits: N, T and P, the weight of all jobs, and both cutters' start kinds.
+pub struct Bench {
+    pub size: Size,
+    pub weight: u64,
+    pub start: usize,
+    pub second: usize,
+}
+
+// How many of each kind the second cutter has.
+fn others(counts: &[u32], left: &[u32]) -> [u32; 5]
+    requires { ⌜ (length (now counts) ≡ 5) × ((length (now left) ≡ 5) × ((j : ℕ) → j < 5 → getD (now left) j 0 ≤ getD (now counts) j 0)) ⌝ }
+    ensures { λ r. ⌜ ((j : ℕ) → j < 5 → getD r j 0 ≡ getD (now (counts .entry)) j 0 - getD (now (left .entry)) j 0) ⌝ }
+{
+    let mut rest = [0u32; 5];
+    let mut j: usize = 0;
+    while j < 5 {
+        rest[j] = counts[j] - left[j];
+        j = j + 1;
+    }
+    rest
+}
+
+// What the split costs whose counts are these: the first cutter's jobs looked up from its start, the others from the second's.
+fn split_cost(
+    table: &[u64],
+    left: &[u32],
+    counts: &[u32],
+    strides: &[usize],
+    gaps: &[u32],
+    goal: u32,
+    bench: Bench,
+    k: JobsLeft,
+) -> Cost
+    requires { ⌜ ((q : Queue) × (l : Layout) × SplitsAt q l (now table) (now left) (now counts) (now strides) (now gaps) goal bench k) ⌝ }
+    ensures { λ r. ⌜ ((q : Queue) (l : Layout) → SplitsAt q l (now (table .entry)) (now (left .entry)) (now (counts .entry)) (now (strides .entry)) (now (gaps .entry)) goal bench k → r ≡ costIn (q .goal) (costAt (problem q) (bench .second) (k .index))) ⌝ }
+{
+    let size = bench.size;
+    let first = solver::look(table, left, strides, gaps, size.block, goal, k, bench.start);
+    let cost = first.cost;
+    if cost.number() == next_states::NONE {
+        return cost;
+    }
+    let rest = others(counts, left);
+    let not_taken = JobsLeft {
+        index: size.block - 1 - k.index,
+        jobs: size.jobs - k.jobs,
+        weight: bench.weight - k.weight,
+    };
+    let second = solver::look(
+        table,
+        &rest,
+        strides,
+        gaps,
+        size.block,
+        goal,
+        not_taken,
+        bench.second,
+    );
+    let other = second.cost;
+    if other.number() == next_states::NONE {
+        return other;
+    }
+    cost.together(other)
+}
+
+// Whether counts come before others: fewer of the first kind where they differ.
+fn is_before(left: &[u32], held: &[u32], kinds: usize) -> bool
+    requires { ⌜ (kinds ≤ length (now left)) × (kinds ≤ length (now held)) ⌝ }
+    ensures { λ r. ⌜ r ≡ isBefore (take kinds (now (left .entry))) (take kinds (now (held .entry))) ⌝ }
+{
+    let mut j: usize = 0;
+    while j < kinds {
+        let a = left[j];
+        let b = held[j];
+        if a != b {
+            return a < b;
+        }
+        j = j + 1;
+    }
+    false
+}
+
+// The better of two splits: that of the lower cost, and of equal costs that whose counts come before.
+fn first_of(held: Split, next: Split, kinds: usize) -> Split
+    requires { ⌜ (kinds ≤ 5) × (inSeconds (held .cost) ≡ inSeconds (next .cost)) ⌝ }
+    ensures { λ r. ⌜ r ≡ firstOf kinds held next ⌝ }
+{
+    let least = held.cost;
+    let cost = next.cost;
+    if cost.less(least) {
+        return next;
+    }
+    if least.less(cost) {
+        return held;
+    }
+    let left = next.counts;
+    let counts = held.counts;
+    if is_before(&left, &counts, kinds) {
+        return next;
+    }
+    held
+}
+
+// The split taken, by a filled table.
+pub fn best_split(queue: Queue, layout: Layout, table: &[u64], second: usize) -> Split
+    requires { ⌜ Valid queue × (Prepared queue layout × (Earlier (problem queue) (now table) (block (problem queue)) × ((entries (problem queue) ≤ length (now table)) × (Is (covers queue) × (second ≤ queue .kinds))))) ⌝ }
+    ensures { λ r. ⌜ Best queue second r ⌝ }
+{
+    let size = layout.size;
+    let gaps = queue.gaps;
+    let weights = queue.weights;
+    let counts = layout.counts;
+    let strides = layout.strides;
+    let bench = Bench {
+        size,
+        weight: jobs_left::weight_left(&counts, &weights, size.kinds),
+        start: queue.start as usize,
+        second,
+    };
+    let mut left = [0u32; 5];
+    let mut best = Split {
+        cost: units::cost_in(queue.goal, next_states::NONE),
+        index: 0,
+        counts: left,
+    };
+    let mut k = JobsLeft {
+        index: 0,
+        jobs: 0,
+        weight: 0,
+    };
+    while k.index < size.block {
+        let next = Split {
+            cost: split_cost(table, &left, &counts, &strides, &gaps, queue.goal, bench, k),
+            index: k.index,
+            counts: left,
+        };
+        best = first_of(best, next, size.kinds);
+        k = jobs_left::step_left(&mut left, &counts, &weights, size.kinds, k);
+    }
+    best
+}
