@@ -10,7 +10,6 @@ ghost use lib.Seq.{sets};
 ghost use Rattle.plan.specs.Record.{fresh};
 ghost use Rattle.plan.specs.Writing.{message, allFresh, judge, writePlan, writtenPlan};
 ghost use Rattle.plan.specs.Writer.{WritesPlan};
-ghost use Rattle.plan_writer.specs.Fronts.{frontBytes};
 
 // Whether the job behind the first `places` is from 1 to `jobs` and stands at none of them.
 fn is_fresh(order: &[u8], places: usize, jobs: u32) -> bool
@@ -62,29 +61,16 @@ fn judge_plan(plan: Plan) -> Verdict
     Verdict::Accepted
 }
 
-// Writes all that stands before the jobs; returns the position behind it.
-fn write_front(buffer: &mut [u8], plan: Plan) -> usize
-    requires { ⌜ length (frontBytes plan) ≤ length (now buffer) ⌝ }
-    ensures { λ r. ⌜ r ≡ length (frontBytes plan) ⌝ }
-    ensures { λ _. ⌜ now (buffer .exit) ≡ sets (now (buffer .entry)) 0 (frontBytes plan) ⌝ }
-{
-    let a = fields_writer::write_opening(buffer, b"QP");
-    let b = number::write_number(buffer, a, 1);
-    let c = number::write_number(buffer, b, plan.goal as u64);
-    let d = number::write_number(buffer, c, plan.cost);
-    let e = number::write_number(buffer, d, plan.feasible_states);
-    number::write_number(buffer, e, plan.jobs as u64)
-}
-
 // Writes the message of a record into a buffer that holds it; returns the number of its bytes.
 fn write_message(buffer: &mut [u8], plan: Plan) -> usize
     requires { ⌜ (plan .jobs ≤ 60) × (length (message plan) ≤ length (now buffer)) ⌝ }
     ensures { λ r. ⌜ r ≡ length (message plan) ⌝ }
     ensures { λ _. ⌜ now (buffer .exit) ≡ sets (now (buffer .entry)) 0 (message plan) ⌝ }
 {
-    let at = write_front(buffer, plan);
     let order = plan.order;
-    fields_writer::write_byte_run(buffer, at, &order, 0, plan.jobs as usize)
+    let a = fields_writer::write_front(buffer, b"QP", plan.goal, plan.cost);
+    let b = number::write_number(buffer, a, plan.feasible_states);
+    fields_writer::write_counted(buffer, b, &order, plan.jobs)
 }
 
 // Writes the message of a valid record; a refused record, or one for a buffer under 77 bytes, changes nothing.

@@ -1,0 +1,3 @@
+pub mod Cutters
+pub mod Lengths
+pub mod Telling
