@@ -72,7 +72,7 @@ module _ {q : Queue} {l : Layout} {table : List ℕ} {second : ℕ} (g : Given q
         is-split = record { in-unit = rw n e; counts-are = left-none (g .valid .kinds .1) };
       }
 
-  module _ {left : List ℕ} {best : Split} {k : JobsLeft} (w : Searching q second left best k) (h : k .index < l .size .block) where
+  module _ {left : List ℕ} {k : JobsLeft} (w : Counting q left k) (h : k .index < l .size .block) where
     -- what the cost of this split is found from
     pub splits : {total : ℕ} → total ≡ weigh (weight q) (take (l .size .kinds) (l .counts))
         → SplitsAt q l table left (l .counts) (l .strides) (q .gaps) (q .goal) (record { size = l .size; weight = total; start = q .start; second = second }) k
@@ -82,8 +82,8 @@ module _ {q : Queue} {l : Layout} {table : List ℕ} {second : ℕ} (g : Given q
         prepared = g .prepared;
         filled = g .filled;
         room = g .room;
-        left-is = left-here (g .valid) (g .prepared) (w .counting) h;
-        sums-are = w .counting .summed;
+        left-is = left-here (g .valid) (g .prepared) w h;
+        sums-are = w .summed;
         strides-are = refl;
         gaps-are = refl;
         gaps-long = g .gaps-long;
@@ -98,76 +98,75 @@ module _ {q : Queue} {l : Layout} {table : List ℕ} {second : ℕ} (g : Given q
       permitted = covered q (g .valid) (g .covering);
     }
 
-    module _ {c : Cost} (cost : c ≡ costIn (q .goal) (costAt (problem q) second (k .index))) where
-      abbrev new : Split
-      new = record { cost = c; index = k .index; counts = left }
+  -- what comparing it with the best so far may rely on
+  pub may-compare : (m n : ℕ) {b c : Cost} → b ≡ costIn (q .goal) m → c ≡ costIn (q .goal) n → (l .size .kinds ≤ 5) × (inSeconds b ≡ inSeconds c)
+  may-compare m n held cost = (omega (arith, g .prepared .kinds-are, g .valid .kinds), one-unit (q .goal) m held n cost)
 
-      abbrev f : ℕ → ℕ
-      f = costAt (problem q) second
+  module _ {left : List ℕ} {best : Split} {k : JobsLeft} (w : Searching q second left best k) (h : k .index < l .size .block)
+      {c : Cost} (cost : c ≡ costIn (q .goal) (costAt (problem q) second (k .index))) where
+    abbrev new : Split
+    new = record { cost = c; index = k .index; counts = left }
 
-      number : numberOf c ≡ f (k .index)
-      number = number-is (q .goal) (f (k .index)) cost
+    abbrev f : ℕ → ℕ
+    f = costAt (problem q) second
 
-      new-split : SplitOf q new
-      new-split = record { in-unit = rw number cost; counts-are = left-here (g .valid) (g .prepared) (w .counting) h }
+    number : numberOf c ≡ f (k .index)
+    number = number-is (q .goal) (f (k .index)) cost
 
-      pub may-compare : (l .size .kinds ≤ 5) × (inSeconds (best .cost) ≡ inSeconds c)
-      may-compare = (
-        omega (arith, g .prepared .kinds-are, g .valid .kinds),
-        one-unit (q .goal) (numberOf (best .cost)) (w .is-split .in-unit) (f (k .index)) cost,
-      )
+    new-split : SplitOf q new
+    new-split = record { in-unit = rw number cost; counts-are = left-here (g .valid) (g .prepared) (w .counting) h }
 
-      -- the better of the best so far and this one
-      record Turned (r : Split) : Type 0 where
-        holds : Held f (allLeft (problem q)) (suc (k .index)) (r .index) (numberOf (r .cost))
-        is-one : SplitOf q r
+    -- the better of the best so far and this one
+    record Turned (r : Split) : Type 0 where
+      holds : Held f (allLeft (problem q)) (suc (k .index)) (r .index) (numberOf (r .cost))
+      is-one : SplitOf q r
 
-      turned-new : Held f (allLeft (problem q)) (suc (k .index)) (k .index) (f (k .index)) → Turned new
-      turned-new n = record { holds = rw number n; is-one = new-split }
+    turned-new : Held f (allLeft (problem q)) (suc (k .index)) (k .index) (f (k .index)) → Turned new
+    turned-new n = record { holds = rw number n; is-one = new-split }
 
-      turned-held : Held f (allLeft (problem q)) (suc (k .index)) (best .index) (numberOf (best .cost)) → Turned best
-      turned-held n = record { holds = n; is-one = w .is-split }
+    turned-held : Held f (allLeft (problem q)) (suc (k .index)) (best .index) (numberOf (best .cost)) → Turned best
+    turned-held n = record { holds = n; is-one = w .is-split }
 
-      abbrev cs : List ℕ
-      cs = allLeft (problem q)
+    abbrev cs : List ℕ
+    cs = allLeft (problem q)
 
-      fronts : (take (l .size .kinds) left ≡ digits cs (k .index)) × (take (l .size .kinds) (best .counts) ≡ digits cs (best .index))
-      fronts = rw (g .prepared .kinds-are) (new-split .counts-are .here, w .is-split .counts-are .here)
+    fronts : (take (l .size .kinds) left ≡ digits cs (k .index)) × (take (l .size .kinds) (best .counts) ≡ digits cs (best .index))
+    fronts = rw (g .prepared .kinds-are) (new-split .counts-are .here, w .is-split .counts-are .here)
 
-      -- of equal costs
-      tied : numberOf c ≡ numberOf (best .cost)
-          → Turned (cond (isBefore (take (l .size .kinds) left) (take (l .size .kinds) (best .counts))) new best)
-      tied e =
-          let same : f (k .index) ≡ numberOf (best .cost) = sym number ∙ e in
-          let longs = digits-length cs (k .index) ∙ sym (digits-length cs (best .index)) in
-          rw (fronts .0, fronts .1) (elim (before-cases (digits cs (k .index)) (digits cs (best .index)) longs) [
-            | inl r ↦ rw (r .0) (turned-new (held-new f cs (k .index) (best .index) (numberOf (best .cost)) (w .held) (inr (same, r .1))))
-            | inr r ↦ rw (r .0) (turned-held (held-on f cs (k .index) (best .index) (numberOf (best .cost)) (w .held) (inr (sym same, r .1))))
+    -- of equal costs
+    tied : numberOf c ≡ numberOf (best .cost)
+        → Turned (cond (isBefore (take (l .size .kinds) left) (take (l .size .kinds) (best .counts))) new best)
+    tied e =
+        let same : f (k .index) ≡ numberOf (best .cost) = sym number ∙ e in
+        let longs = digits-length cs (k .index) ∙ sym (digits-length cs (best .index)) in
+        rw (fronts .0, fronts .1) (elim (before-cases (digits cs (k .index)) (digits cs (best .index)) longs) [
+          | inl r ↦ rw (r .0) (turned-new (held-new f cs (k .index) (best .index) (numberOf (best .cost)) (w .held) (inr (same, r .1))))
+          | inr r ↦ rw (r .0) (turned-held (held-on f cs (k .index) (best .index) (numberOf (best .cost)) (w .held) (inr (sym same, r .1))))
+        ])
+
+    turned : Turned (firstOf (l .size .kinds) best new)
+    turned =
+        let n = numberOf (best .cost) in
+        elim (below-or-not (numberOf c) n) [
+          | inl a ↦ rw (lt-ltb (numberOf c) n a) (turned-new (held-new f cs (k .index) (best .index) n (w .held) (inl (omega (arith, number)))))
+          | inr a ↦ rw (le-ltb (numberOf c) n a) (elim (below-or-not n (numberOf c)) [
+            | inl b ↦ rw (lt-ltb n (numberOf c) b) (turned-held (held-on f cs (k .index) (best .index) n (w .held) (inl (omega (arith, number)))))
+            | inr b ↦ rw (le-ltb n (numberOf c) b) (tied (omega arith))
           ])
+        ]
 
-      turned : Turned (firstOf (l .size .kinds) best new)
-      turned =
-          let n = numberOf (best .cost) in
-          elim (below-or-not (numberOf c) n) [
-            | inl a ↦ rw (lt-ltb (numberOf c) n a) (turned-new (held-new f cs (k .index) (best .index) n (w .held) (inl (omega (arith, number)))))
-            | inr a ↦ rw (le-ltb (numberOf c) n a) (elim (below-or-not n (numberOf c)) [
-              | inl b ↦ rw (lt-ltb n (numberOf c) b) (turned-held (held-on f cs (k .index) (best .index) n (w .held) (inl (omega (arith, number)))))
-              | inr b ↦ rw (le-ltb n (numberOf c) b) (tied (omega arith))
-            ])
-          ]
-
-      module _ {left′ : List ℕ} {k′ : JobsLeft} {r : Split} (better : r ≡ firstOf (l .size .kinds) best new) where
-        pub search-more : length left′ ≡ length left
-            → take (l .size .kinds) left′ ≡ next (take (l .size .kinds) (l .counts)) (take (l .size .kinds) left) → drop (l .size .kinds) left′ ≡ drop (l .size .kinds) left
-            → Summed (q .weights) (take (l .size .kinds) left′) (k′ .jobs) (k′ .weight) → k′ .index ≡ k .index + 1 → Searching q second left′ r k′
-        search-more same stepped rest summed e =
-            let e′ : k′ .index ≡ suc (k .index) = e ∙ add-one (k .index) in
-            let t : Turned r = rw better turned in
-            record {
-              counting = counting-more (g .valid) (g .prepared) (w .counting) h same stepped rest summed e′;
-              held = rw e′ (t .holds);
-              is-split = t .is-one;
-            }
+    module _ {left′ : List ℕ} {k′ : JobsLeft} {r : Split} (better : r ≡ firstOf (l .size .kinds) best new) where
+      pub search-more : length left′ ≡ length left
+          → take (l .size .kinds) left′ ≡ next (take (l .size .kinds) (l .counts)) (take (l .size .kinds) left) → drop (l .size .kinds) left′ ≡ drop (l .size .kinds) left
+          → Summed (q .weights) (take (l .size .kinds) left′) (k′ .jobs) (k′ .weight) → k′ .index ≡ k .index + 1 → Searching q second left′ r k′
+      search-more same stepped rest summed e =
+          let e′ : k′ .index ≡ suc (k .index) = e ∙ add-one (k .index) in
+          let t : Turned r = rw better turned in
+          record {
+            counting = counting-more (g .valid) (g .prepared) (w .counting) h same stepped rest summed e′;
+            held = rw e′ (t .holds);
+            is-split = t .is-one;
+          }
 
   -- at its end: the split taken
   pub search-done : {left : List ℕ} {best : Split} {k : JobsLeft} → Searching q second left best k → l .size .block ≤ k .index → Best q second best
