@@ -235,10 +235,8 @@ fn write_jobs(buffer: &mut [u8], at: usize, queue: Queue) -> usize
     ensures { λ r. ⌜ r ≡ at + length (jobBytes queue) ⌝ }
     ensures { λ _. ⌜ now (buffer .exit) ≡ sets (now (buffer .entry)) at (jobBytes queue) ⌝ }
 {
-    let jobs = queue.jobs as usize;
     let job_kinds = queue.job_kinds;
-    let a = number::write_number(buffer, at, jobs as u64);
-    fields_writer::write_byte_run(buffer, a, &job_kinds, 0, jobs)
+    fields_writer::write_counted(buffer, at, &job_kinds, queue.jobs)
 }
 
 // The message of a record that was judged.

@@ -1,7 +1,7 @@
 -- How long a split plan's message can be.
 -- Assumes nothing.
-use Prim.Native.Nat.{ℕ, _+_, _^_, _<_, _≤_}
-use mathlib.Core.Path.{_≡_, refl, ap, ap₂, _∙_}
+use Prim.Native.Nat.{ℕ, _+_, _<_, _≤_}
+use mathlib.Core.Path.{_≡_, refl, ap}
 use mathlib.Core.List.{List, [], _∷_, _++_, flatMap}
 use native.Mathlib.Omega.{arith}
 use lib.ListN.{length, length-append}
@@ -40,5 +40,7 @@ message-length p b =
     let few = b .jobs in
     let first = cutter-length (p .first) (omega arith) (b .first) in
     let second = cutter-length (p .second) (omega arith) (b .second) in
-    let opened : length ((0x51 ∷ 0x32 ∷ []) ++ encode 1) ≡ 3 = rw (encode-small 1 (omega arith)) (omega arith) in
-    omega (arith, goal, cost, first, second, opened, lengths ((0x51 ∷ 0x32 ∷ []) ++ encode 1) (encode (p .goal)) (encode (p .cost)) (cutterBytes (p .first)) (cutterBytes (p .second)))
+    let opened : List ℕ = (0x51 ∷ 0x32 ∷ []) ++ encode 1 in
+    let three : length opened ≡ 3 = rw (encode-small 1 (omega arith)) (omega arith) in
+    let whole = lengths opened (encode (p .goal)) (encode (p .cost)) (cutterBytes (p .first)) (cutterBytes (p .second)) in
+    omega (arith, goal, cost, first, second, three, whole)

@@ -7,7 +7,7 @@ use native.Mathlib.Nat.{zero-add}
 use lib.ListN.{length}
 use Rattle.number.specs.Numbers.{encode}
 use Rattle.fields.proofs.Pieces.{Wrote, room-first, room-left, wrote-both}
-use Rattle.fields_writer.specs.Pieces.{openingBytes, frontBytes}
+use Rattle.fields_writer.specs.Pieces.{openingBytes}
 use borrow.Author.Needs.{needs}
 use Rattle.fields_writer.proofs.write_front.Statement.{statement}
 use Rattle.fields_writer.proofs.write_front.Tie as tie
@@ -58,13 +58,18 @@ abbrev at-edition : tie.After-write-number → tie.Start
 at-edition c = at-opening (c .before .before .before .before)
 
 edition : (c : tie.After-write-number) → Holds (at-edition c) (toEdition (at-edition c)) (c .write-number .last .0) (c .write-number .result)
-edition c = wrote-both (lent (at-edition c)) 0 (toOpening (at-edition c)) _ _ (opening (c .before .before .before .before)) (encode 1) _ _ (c .write-number .ensures)
+edition c =
+    let w = c .before .before .before .before in
+    wrote-both (lent (at-opening w)) 0 (toOpening (at-opening w)) _ _ (opening w) (encode 1) _ _ (c .write-number .ensures)
 
 abbrev at-goal : tie.After-write-number2 → tie.Start
 at-goal c = at-edition (c .before .before .before .before)
 
 goal : (c : tie.After-write-number2) → Holds (at-goal c) (toGoal (at-goal c)) (c .write-number2 .last .0) (c .write-number2 .result)
-goal c = wrote-both (lent (at-goal c)) 0 (toEdition (at-goal c)) _ _ (edition (c .before .before .before .before)) (encode (at-goal c .args .goal)) _ _ (c .write-number2 .ensures)
+goal c =
+    let w = c .before .before .before .before in
+    let start = at-edition w in
+    wrote-both (lent start) 0 (toEdition start) _ _ (edition w) (encode (start .args .goal)) _ _ (c .write-number2 .ensures)
 
 write-number-requires : tie.Need-write-number-requires
 write-number-requires c κs =
@@ -85,7 +90,8 @@ returns : tie.Need-returns
 returns c =
     let last = c .before .before in
     let w = last .before .before .before .before in
-    let cost = wrote-both (lent (at-goal w)) 0 (toGoal (at-goal w)) _ _ (goal w) (encode (at-goal w .args .cost)) _ _ (last .write-number3 .ensures) in
+    let start = at-goal w in
+    let cost = wrote-both (lent start) 0 (toGoal start) _ _ (goal w) (encode (start .args .cost)) _ _ (last .write-number3 .ensures) in
     (cost .0 ∙ zero-add _, cost .1)
 
 pub write-front-spec : {M : Type 1} → statement M

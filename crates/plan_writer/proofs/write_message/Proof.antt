@@ -10,7 +10,6 @@ use Rattle.number.specs.Numbers.{encode}
 use Rattle.fields.specs.Fields.{encodeAll}
 use Rattle.fields.proofs.Pieces.{Wrote, room-first, room-left, wrote-both}
 use Rattle.fields_writer.specs.Pieces.{frontBytes, countedBytes}
-use Rattle.plan.specs.declared.Plan.{Plan}
 use Rattle.plan.specs.Record.{jobList}
 use Rattle.plan.specs.Writing.{message}
 use Rattle.plan_laws.proofs.JobLists.{job-list-part}
@@ -67,7 +66,10 @@ abbrev at-states : tie.After-write-number → tie.Start
 at-states c = at-front (c .before .before .before .before)
 
 kept : (c : tie.After-write-number) → Wrote (lent (at-states c)) 0 (toStates (at-states c)) (c .write-number .last .0) (c .write-number .result)
-kept c = wrote-both (lent (at-states c)) 0 (toCost (at-states c)) _ _ (front (c .before .before .before .before)) (states (at-states c)) _ _ (c .write-number .ensures)
+kept c =
+    let w = c .before .before .before .before in
+    let start = at-front w in
+    wrote-both (lent start) 0 (toCost start) _ _ (front w) (states start) _ _ (c .write-number .ensures)
 
 write-number-requires : tie.Need-write-number-requires
 write-number-requires c κs =

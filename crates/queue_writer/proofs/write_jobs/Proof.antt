@@ -1,13 +1,14 @@
--- `queue_writer::write_jobs` meets its contract: the kinds are written after their number.
+-- `queue_writer::write_jobs` meets its contract: T, and as many kinds.
 -- Assumes nothing.
-use Prim.Native.Nat.{_≤_}
+use Prim.Native.Nat.{ℕ, _≤_}
+use mathlib.Core.Path.{_≡_, ap}
+use mathlib.Core.List.{List, _++_}
 use native.Mathlib.Omega.{arith}
 use lib.ListN.{length}
 use Rattle.number.specs.Numbers.{encode}
 use Rattle.fields.specs.Fields.{encodeAll}
-use Rattle.fields.proofs.Pieces.{room-first, room-left, wrote-both}
 use Rattle.fields.proofs.Tables.{list-part}
-use Rattle.queue.specs.Record.{kindList}
+use Rattle.fields_writer.specs.Pieces.{countedBytes}
 use Rattle.queue.specs.Writing.{jobBytes}
 use Rattle.queue_writer.proofs.Arrays.{Lengths}
 use borrow.Author.Needs.{needs}
@@ -20,36 +21,22 @@ lengths c = search needs
 few : (c : tie.Start) → c .args .queue .jobs ≤ length (c .args .queue .«job_kinds»)
 few c = omega (arith, c .pre .0, lengths c .kinds)
 
--- the function's entry, from where T was written
-abbrev at-entry : tie.After-write-number → tie.Start
-at-entry c = c .before .before .before .before .before
-
-write-number-requires : tie.Need-write-number-requires
+-- the kinds are the front of their array
+listed : (c : tie.Start) → jobBytes (c .args .queue) ≡ countedBytes (c .args .queue .jobs) (c .args .queue .«job_kinds»)
 unfolding jobBytes
-write-number-requires c κs =
-    let entry = c .before .before .before .before in
-    let q = entry .args .queue in
-    room-first (entry .args .at) (encode (q .jobs)) (encodeAll (kindList q)) _ (entry .pre .1)
+listed c =
+    let q = c .args .queue in
+    ap (λ (kinds : List ℕ). encode (q .jobs) ++ encodeAll kinds) (list-part (q .«job_kinds») (q .jobs) (few c))
 
-write-byte-run-requires : tie.Need-write-byte-run-requires
-unfolding jobBytes
-write-byte-run-requires c κs =
-    let w = c .before .before .before .before in
-    let entry = at-entry w in
-    let q = entry .args .queue in (
-      omega (arith, few entry),
-      rw (list-part (q .«job_kinds») (q .jobs) (few entry)) at (room-left _ (entry .args .at) (encode (q .jobs)) _ _ (w .write-number .ensures) (encodeAll (kindList q)) (entry .pre .1)),
-    )
+write-counted-requires : tie.Need-write-counted-requires
+write-counted-requires c κs =
+    let start = c .before .before .before .before in
+    (few start, omega (arith, start .pre .1, ap length (listed start)))
 
 returns : tie.Need-returns
-unfolding jobBytes
 returns c =
-    let last = c .before .before in
-    let w = last .before .before .before .before .before in
-    let args = at-entry w .args in
-    let q = args .queue in
-    wrote-both _ (args .at) (encode (q .jobs)) _ _ (w .write-number .ensures) (encodeAll (kindList q)) _ _ (rw (list-part (q .«job_kinds») (q .jobs) (few (at-entry w))) (last .write-byte-run .ensures))
+    let call = c .before .before in
+    rw (listed (call .before .before .before .before .before)) (call .write-counted .ensures)
 
 pub write-jobs-spec : {M : Type 1} → statement M
-write-jobs-spec =
-    tie.close (tie.spec (λ c. search needs) write-number-requires (λ c. search needs) write-byte-run-requires (λ c. search needs) returns)
+write-jobs-spec = tie.close (tie.spec (λ c. search needs) write-counted-requires (λ c. search needs) returns)

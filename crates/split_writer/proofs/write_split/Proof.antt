@@ -74,7 +74,10 @@ abbrev at-first : tie.After-write-counted → tie.Start
 at-first c = at-front (c .before .before .before .before .before)
 
 one : (c : tie.After-write-counted) → Wrote (lent (at-first c)) 0 (toFirst (at-first c)) (c .write-counted .last .0) (c .write-counted .result)
-one c = wrote-both (lent (at-first c)) 0 (toCost (at-first c)) _ _ (front (c .before .before .before .before .before)) (first (at-first c)) _ _ (c .write-counted .ensures)
+one c =
+    let w = c .before .before .before .before .before in
+    let start = at-front w in
+    wrote-both (lent start) 0 (toCost start) _ _ (front w) (first start) _ _ (c .write-counted .ensures)
 
 write-counted-requires : tie.Need-write-counted-requires
 write-counted-requires c κs =
@@ -98,5 +101,5 @@ returns c =
 
 pub write-split-spec : {M : Type 1} → statement M
 write-split-spec =
-    tie.close (tie.spec (λ c κs. front-room (c .before .before .before .before .before)) (λ c. search needs) write-counted-requires (λ c. search needs)
-    write-counted-requires-2 (λ c. search needs) returns)
+    tie.close (tie.spec (λ c κs. front-room (c .before .before .before .before .before)) (λ c. search needs) write-counted-requires
+    (λ c. search needs) write-counted-requires-2 (λ c. search needs) returns)
