@@ -17,7 +17,7 @@ module _ {R : Type 0} (least : ℕ) (Valid : R → Type 0) (Same : R → R → T
   pub record Writes (r : R) (buffer buffer′ : List ℕ) (answer : Written) : Type 0 where
     -- "refused readers and writers change no lent byte": where R is not 0
     pub refused : refusalOf (writtenNumber answer) ≢ 0 → buffer′ ≡ buffer
-    -- "written then read is the same record": a valid record is written, in V bytes, and its reader accepts them and reads the same record
+    -- demand 2, "round trips compare up to N and T": a valid record is written, in V bytes, its reader accepts them and reads the same record
     pub written : Valid r → least ≤ length buffer
         → (n : ℕ) × (answer ≡ Wrote n) × (refusalOf (writtenNumber answer) ≡ 0) × (valueOf (writtenNumber answer) ≡ n) × (n ≤ length buffer′)
         × (verdict (take n buffer′) ≡ Accepted) × Same (recordOf (take n buffer′)) r
