@@ -2,3 +2,4 @@ pub mod Rest
 pub mod Costs
 pub mod Before
 pub mod Searching
+pub mod Shares

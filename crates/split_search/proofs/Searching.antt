@@ -3,7 +3,7 @@
 use mathlib.Core.Bool.{cond}
 use mathlib.Core.List.{List}
 use mathlib.Core.Logic.{inl, inr}
-use mathlib.Core.Path.{_≡_, refl, sym, _∙_}
+use mathlib.Core.Path.{_≡_, refl, sym, ap, _∙_}
 use Prim.Native.Nat.{ℕ, suc, _+_, _-_, _^_, _≤_, _<_}
 use native.Mathlib.Numerals.{add-one}
 use native.Mathlib.Omega.{arith}
@@ -16,9 +16,9 @@ use Rattle.units.specs.Costs.{costIn, numberOf, inSeconds}
 use Rattle.units.proofs.Costs.{number-is, one-unit}
 use Rattle.queue.specs.declared.Queue.{Queue}
 use Rattle.queue.specs.Record.{weight, Valid}
-use Rattle.sequencing.specs.Lists.{weigh}
+use Rattle.sequencing.specs.Lists.{sum, weigh}
 use Rattle.sequencing.specs.States.{allLeft}
-use Rattle.sequencing.specs.Entries.{digits, block, entries}
+use Rattle.sequencing.specs.Entries.{digits, kAt, block, entries}
 use Rattle.sequencing.proofs.Radix.{digits-length}
 use Rattle.problem.specs.OfQueue.{problem}
 use Rattle.problem.proofs.Rule.{proper}
@@ -50,10 +50,11 @@ pub record Given (q : Queue) (l : Layout) (table : List ℕ) (second : ℕ) : Ty
   pub gaps-long : length (q .gaps) ≡ 30
   pub weights-long : length (q .weights) ≡ 5
 
--- a split of the queue: its cost in the goal's unit, and counts that have its index
+-- a split of the queue: its cost in the goal's unit, and counts that have its index and are so many
 pub record SplitOf (q : Queue) (s : Split) : Type 0 where
   pub in-unit : s .cost ≡ costIn (q .goal) (numberOf (s .cost))
   pub counts-are : LeftAt (problem q) (s .counts) (s .index)
+  pub jobs-are : s .jobs ≡ sum (kAt (problem q) (s .index))
 
 -- the best of the splits passed
 pub record Searching (q : Queue) (second : ℕ) (left : List ℕ) (best : Split) (k : JobsLeft) : Type 0 where
@@ -63,17 +64,21 @@ pub record Searching (q : Queue) (second : ℕ) (left : List ℕ) (best : Split)
 
 module _ {q : Queue} {l : Layout} {table : List ℕ} {second : ℕ} (g : Given q l table second) where
   pub search-none : {c : Cost} → c ≡ costIn (q .goal) (2 ^ 64 - 1)
-      → Searching q second (replicate 5 0) (record { cost = c; index = 0; counts = replicate 5 0 }) (record { index = 0; jobs = 0; weight = 0 })
+      → Searching q second (replicate 5 0) (record { cost = c; index = 0; jobs = 0; counts = replicate 5 0 }) (record { index = 0; jobs = 0; weight = 0 })
   search-none e =
       let n = number-is (q .goal) (2 ^ 64 - 1) e in
       record {
         counting = counting-none (g .valid);
         held = rw n (held-start (costAt (problem q) second) (allLeft (problem q)));
-        is-split = record { in-unit = rw n e; counts-are = left-none (g .valid .kinds .1) };
+        is-split = record {
+          in-unit = rw n e;
+          counts-are = left-none (g .valid .kinds .1);
+          jobs-are = counting-none (g .valid) .summed .jobs-are ∙ ap sum (left-none (g .valid .kinds .1) .here);
+        };
       }
 
-  module _ {left : List ℕ} {k : JobsLeft} (w : Counting q left k) (h : k .index < l .size .block) where
-    -- what the cost of this split is found from
+  module _ {left : List ℕ} {k : JobsLeft} (left-is : LeftAt (problem q) left (k .index)) (sums-are : Summed (q .weights) (take (q .kinds) left) (k .jobs) (k .weight)) where
+    -- what the cost of the split with these counts is found from
     pub splits : {total : ℕ} → total ≡ weigh (weight q) (take (l .size .kinds) (l .counts))
         → SplitsAt q l table left (l .counts) (l .strides) (q .gaps) (q .goal) (record { size = l .size; weight = total; start = q .start; second = second }) k
     splits e = record {
@@ -82,8 +87,8 @@ module _ {q : Queue} {l : Layout} {table : List ℕ} {second : ℕ} (g : Given q
         prepared = g .prepared;
         filled = g .filled;
         room = g .room;
-        left-is = left-here (g .valid) (g .prepared) w h;
-        sums-are = w .summed;
+        left-is = left-is;
+        sums-are = sums-are;
         strides-are = refl;
         gaps-are = refl;
         gaps-long = g .gaps-long;
@@ -105,7 +110,7 @@ module _ {q : Queue} {l : Layout} {table : List ℕ} {second : ℕ} (g : Given q
   module _ {left : List ℕ} {best : Split} {k : JobsLeft} (w : Searching q second left best k) (h : k .index < l .size .block)
       {c : Cost} (cost : c ≡ costIn (q .goal) (costAt (problem q) second (k .index))) where
     abbrev new : Split
-    new = record { cost = c; index = k .index; counts = left }
+    new = record { cost = c; index = k .index; jobs = k .jobs; counts = left }
 
     abbrev f : ℕ → ℕ
     f = costAt (problem q) second
@@ -114,7 +119,9 @@ module _ {q : Queue} {l : Layout} {table : List ℕ} {second : ℕ} (g : Given q
     number = number-is (q .goal) (f (k .index)) cost
 
     new-split : SplitOf q new
-    new-split = record { in-unit = rw number cost; counts-are = left-here (g .valid) (g .prepared) (w .counting) h }
+    new-split =
+        let here = left-here (g .valid) (g .prepared) (w .counting) h in
+        record { in-unit = rw number cost; counts-are = here; jobs-are = w .counting .summed .jobs-are ∙ ap sum (here .here) }
 
     -- the better of the best so far and this one
     record Turned (r : Split) : Type 0 where
@@ -177,4 +184,5 @@ module _ {q : Queue} {l : Layout} {table : List ℕ} {second : ℕ} (g : Given q
             (λ d t. taken-fits q (g .valid) second (g .second-in) d t .2);
         in-unit = w .is-split .in-unit;
         counts-are = w .is-split .counts-are;
+        jobs-are = w .is-split .jobs-are;
       }

@@ -1,1 +1,2 @@
 pub mod Searching
+pub mod Shares

@@ -8,9 +8,10 @@ use lib.ListN.{take}
 use Rattle.units.specs.Costs.{costIn, numberOf}
 use Rattle.queue.specs.declared.Queue.{Queue}
 use Rattle.queue.specs.Record.{weight}
-use Rattle.sequencing.specs.Lists.{weigh}
+use Rattle.sequencing.specs.Lists.{sum, weigh}
 use Rattle.sequencing.specs.Problem.{AllPermitted}
 use Rattle.sequencing.specs.States.{allLeft}
+use Rattle.sequencing.specs.Entries.{kAt}
 use Rattle.problem.specs.OfQueue.{problem}
 use Rattle.splitting.specs.Scan.{isBefore, TakenAt}
 use Rattle.jobs_left.specs.declared.JobsLeft.{JobsLeft}
@@ -37,8 +38,9 @@ firstOf kinds held next =
     (cond (ltb (numberOf (held .cost)) (numberOf (next .cost))) held
     (cond (isBefore (take kinds (next .counts)) (take kinds (held .counts))) next held))
 
--- the split taken, as it is answered: its cost in the goal's unit, and the first cutter's counts with their index
+-- the split taken, as it is answered: its cost in the goal's unit, and the first cutter's counts with their index and how many they are
 pub record Best (q : Queue) (second : ℕ) (r : Split) : Type 0 where
   pub taken : TakenAt (problem q) second (r .index) (numberOf (r .cost))
   pub in-unit : r .cost ≡ costIn (q .goal) (numberOf (r .cost))
   pub counts-are : LeftAt (problem q) (r .counts) (r .index)
+  pub jobs-are : r .jobs ≡ sum (kAt (problem q) (r .index))

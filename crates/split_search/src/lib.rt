@@ -4,27 +4,33 @@ use layout::Layout;
 use layout::Size;
 use queue::Queue;
 use units::Cost;
+ghost use mathlib.Core.Logic.{_≢_};
+ghost use mathlib.Core.Option.{none};
 ghost use mathlib.Core.Path.{_≡_};
 ghost use Prim.Native.Nat.{ℕ, _-_, _≤_, _<_};
 ghost use lib.Dec.{T as Is};
 ghost use lib.ListN.{length, getD, take};
 ghost use Rattle.units.specs.Costs.{costIn, inSeconds};
+ghost use Rattle.fields.specs.Lists.{filled};
 ghost use Rattle.queue.specs.declared.Queue.{Queue};
 ghost use Rattle.queue.specs.Record.{Valid};
-ghost use Rattle.sequencing.specs.Entries.{block, entries};
+ghost use Rattle.sequencing.specs.Entries.{kAt, block, entries};
 ghost use Rattle.problem.specs.OfQueue.{problem};
+ghost use Rattle.splitting.specs.Taken.{takenCost, firstOrder, secondOrder};
 ghost use Rattle.splitting.specs.Covers.{covers};
 ghost use Rattle.splitting.specs.Scan.{isBefore, costAt};
 ghost use Rattle.layout.specs.declared.Layout.{Layout};
 ghost use Rattle.layout.specs.Prepared.{Prepared};
 ghost use Rattle.filling.specs.Filling.{Earlier};
 ghost use Rattle.split_search.specs.Searching.{SplitsAt, firstOf, Best};
+ghost use Rattle.split_search.specs.Shares.{ShareFrom, orderFrom};
 
 // A split by its counts: what both cutters cost, NONE of its unit where either has no order, and how many of each kind the first cutter has, with their
-// index.
+// index and how many these are.
 pub struct Split {
     pub cost: Cost,
     pub index: usize,
+    pub jobs: u32,
     pub counts: [u32; 5],
 }
 
@@ -71,21 +77,13 @@ fn split_cost(
         return cost;
     }
     let rest = others(counts, left);
-    let not_taken = JobsLeft {
+    let rest_k = JobsLeft {
         index: size.block - 1 - k.index,
         jobs: size.jobs - k.jobs,
         weight: bench.weight - k.weight,
     };
-    let second = solver::look(
-        table,
-        &rest,
-        strides,
-        gaps,
-        size.block,
-        goal,
-        not_taken,
-        bench.second,
-    );
+    let row = bench.second;
+    let second = solver::look(table, &rest, strides, gaps, size.block, goal, rest_k, row);
     let other = second.cost;
     if other.number() == next_states::NONE {
         return other;
@@ -151,6 +149,7 @@ pub fn best_split(queue: Queue, layout: Layout, table: &[u64], second: usize) ->
     let mut best = Split {
         cost: units::cost_in(queue.goal, next_states::NONE),
         index: 0,
+        jobs: 0,
         counts: left,
     };
     let mut k = JobsLeft {
@@ -162,10 +161,91 @@ pub fn best_split(queue: Queue, layout: Layout, table: &[u64], second: usize) ->
         let next = Split {
             cost: split_cost(table, &left, &counts, &strides, &gaps, queue.goal, bench, k),
             index: k.index,
+            jobs: k.jobs,
             counts: left,
         };
         best = first_of(best, next, size.kinds);
         k = jobs_left::step_left(&mut left, &counts, &weights, size.kinds, k);
     }
     best
+}
+
+// Both cutters' orders, each in sixty places, then 0.
+pub struct Orders {
+    pub first: [u8; 60],
+    pub second: [u8; 60],
+}
+
+// The order from a row of what is left (its index and how many beside it), each kind up to a job of its own.
+fn share_order(
+    queue: Queue,
+    layout: Layout,
+    table: &[u64],
+    left: [u32; 5],
+    upto: [u32; 5],
+    index: usize,
+    jobs: u32,
+    row: usize,
+) -> [u8; 60]
+    requires { ⌜ ShareFrom queue layout left upto index jobs row × (Earlier (problem queue) (now table) (block (problem queue)) × (entries (problem queue) ≤ length (now table))) ⌝ }
+    ensures { λ r. ⌜ r ≡ filled 60 (orderFrom (problem queue) upto row (kAt (problem queue) index)) ⌝ }
+{
+    let size = layout.size;
+    let gaps = queue.gaps;
+    let weights = queue.weights;
+    let strides = layout.strides;
+    let k = JobsLeft {
+        index,
+        jobs,
+        weight: jobs_left::weight_left(&left, &weights, size.kinds),
+    };
+    let block = size.block;
+    let first = solver::look(table, &left, &strides, &gaps, block, queue.goal, k, row);
+    solver::follow(
+        queue,
+        layout,
+        table,
+        left,
+        upto,
+        index,
+        first.kind,
+        jobs as usize,
+    )
+}
+
+// Both cutters' orders of the split taken, where there is one.
+pub fn split_orders(
+    queue: Queue,
+    layout: Layout,
+    table: &[u64],
+    second: usize,
+    split: Split,
+) -> Orders
+    requires { ⌜ Valid queue × (Prepared queue layout × (Earlier (problem queue) (now table) (block (problem queue)) × ((entries (problem queue) ≤ length (now table)) × (Is (covers queue) × (second ≤ queue .kinds))))) ⌝ }
+    requires { ⌜ Best queue second split × (takenCost (problem queue) second ≢ none) ⌝ }
+    ensures { λ r. ⌜ r .first ≡ filled 60 (firstOrder (problem queue) second) ⌝ }
+    ensures { λ r. ⌜ r .second ≡ filled 60 (secondOrder (problem queue) second) ⌝ }
+{
+    let size = layout.size;
+    let counts = layout.counts;
+    let left = split.counts;
+    let rest = others(&counts, &left);
+    let index = split.index;
+    let jobs = split.jobs;
+    let start = queue.start as usize;
+    let first = share_order(queue, layout, table, left, left, index, jobs, start);
+    let other = share_order(
+        queue,
+        layout,
+        table,
+        rest,
+        counts,
+        size.block - 1 - index,
+        size.jobs - jobs,
+        second,
+    );
+    Orders {
+        first,
+        second: other,
+    }
 }

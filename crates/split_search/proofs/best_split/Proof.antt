@@ -62,14 +62,14 @@ loop-holds c = search-none (given (copied (weighed c .before))) (c .cost-in .ens
 split-cost-requires : tie.Need-split-cost-requires Inv-loop μ-loop
 split-cost-requires c κs =
     let t = lent c in
-    (entry t .args .queue, entry t .args .layout, splits (given (entry t)) (loop t .loop .inv .counting) (t .if1 .taken) (weighed (loop t .before) .weight-left .ensures))
+    (entry t .args .queue, entry t .args .layout, splits (given (entry t)) (here t) (loop t .loop .inv .counting .summed) (weighed (loop t .before) .weight-left .ensures))
 
 cost-is : (c : tie.After-split-cost Inv-loop μ-loop) → let t = costed c in
     c .split-cost .result ≡ costIn (entry t .args .queue .goal) (costAt (problem (entry t .args .queue)) (entry t .args .second) (loop t .loop .k .index))
 cost-is c =
     let t = costed c in
     c .split-cost .ensures (entry t .args .queue) (entry t .args .layout)
-    (splits (given (entry t)) (loop t .loop .inv .counting) (t .if1 .taken) (weighed (loop t .before) .weight-left .ensures))
+    (splits (given (entry t)) (here t) (loop t .loop .inv .counting .summed) (weighed (loop t .before) .weight-left .ensures))
 
 first-of-requires : tie.Need-first-of-requires Inv-loop μ-loop
 first-of-requires c κs = let t = costed c in may-compare (given (entry t)) _ _ (loop t .loop .inv .is-split .in-unit) (cost-is c)
