@@ -105,7 +105,7 @@ module _ {q : Queue} {l : Layout} {table : List ℕ} {second : ℕ} (g : Given q
       × (costToGo (problem q) second (kAt (problem q) (block (problem q) - 1 - r .index)) ≢ none)
   found =
       let (x, y, f, h, _) =
-          taken-looks (problem q) permitted (proper q (g .valid)) second (r .index) (cost .0) (numberOf (r .cost)) (b .counts-are .within) (b .taken) (cost .1) in
+      taken-looks (problem q) permitted (proper q (g .valid)) second (r .index) (cost .0) (numberOf (r .cost)) (b .counts-are .within) (b .taken) (cost .1) in
       ((λ n. none-some x (sym n ∙ f)), (λ n. none-some y (sym n ∙ h)))
 
   pub first-share : ShareFrom q l (r .counts) (r .counts) (r .index) (r .jobs) (q .start)
