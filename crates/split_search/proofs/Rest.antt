@@ -20,7 +20,7 @@ use Rattle.sequencing.proofs.Vectors.{at-take}
 use Rattle.problem.specs.OfQueue.{problem}
 use Rattle.splitting.specs.Scan.{others}
 use Rattle.splitting.proofs.Lists.{same-at}
-use Rattle.splitting.proofs.Counts.{at-others}
+use Rattle.splitting.proofs.Counts.{at-others, others-left}
 use Rattle.splitting.proofs.ByIndex.{others-at, sum-others}
 use Rattle.jobs_left.specs.declared.JobsLeft.{JobsLeft}
 use Rattle.jobs_left.specs.Steps.{LeftAt}
@@ -95,16 +95,18 @@ module _ {q : Queue} {l : Layout} {table left counts strides gaps : List ℕ} {g
   -- the first cutter's sums are parts of all jobs'
   weights-add : weigh (weight q) (kAt (problem q) (k .index)) + weigh (weight q) (kAt (problem q) mirrored) ≡ b .weight
   weights-add =
-      let n = kAt (problem q) (k .index) in
-      let left-n = left-digits (problem q) (k .index) in
-      rw (mirrored-is, others-at (problem q) (k .index) in-block)
-      (weigh-rest (weight q) (allLeft (problem q)) n (others (problem q) n) (left-n .long ∙ sym (length-all (problem q)))
-      (ap length (sym (others-at (problem q) (k .index) in-block)) ∙ left-digits (problem q) (block (problem q) - 1 - k .index) .long ∙ sym (length-all (problem q)))
-      (λ j a u. omega (arith, at-others (problem q) n left-n j a (omega (arith, length-all (problem q))), at-all (problem q) j a (omega (arith, length-all (problem q))), left-n .within j))
+      let P = problem q in
+      let n = kAt P (k .index) in
+      let left-n = left-digits P (k .index) in
+      rw (mirrored-is, others-at P (k .index) in-block)
+      (weigh-rest (weight q) (allLeft P) n (others P n) (left-n .long ∙ sym (length-all P)) (others-left P n left-n .long ∙ sym (length-all P))
+      (λ j a u. let h : j ≤ P .N = omega (arith, length-all P) in omega (arith, at-others P n left-n j a h, at-all P j a h, left-n .within j))
       ∙ sym (s .weight-is))
 
   jobs-add : sum (kAt (problem q) (k .index)) + sum (kAt (problem q) mirrored) ≡ b .size .jobs
-  jobs-add = rw mirrored-is (sum-others (problem q) (k .index) in-block ∙ all-jobs (s .looks .valid) ∙ sym (ap (λ z. z .jobs) (s .size-is) ∙ s .looks .prepared .jobs-are))
+  jobs-add =
+      rw mirrored-is (sum-others (problem q) (k .index) in-block ∙ all-jobs (s .looks .valid)
+      ∙ sym (ap (λ z. z .jobs) (s .size-is) ∙ s .looks .prepared .jobs-are))
 
   jobs-here : k .jobs ≡ sum (kAt (problem q) (k .index))
   jobs-here = s .looks .sums-are .jobs-are ∙ ap sum (s .looks .left-is .here)
@@ -113,7 +115,8 @@ module _ {q : Queue} {l : Layout} {table left counts strides gaps : List ℕ} {g
   weight-here = s .looks .sums-are .weight-is ∙ ap (weigh (weight q)) (s .looks .left-is .here)
 
   pub sums-within : (1 ≤ b .size .block) × (k .index ≤ b .size .block - 1) × (k .jobs ≤ b .size .jobs) × (k .weight ≤ b .weight)
-  sums-within = (omega (arith, block-is, in-block), omega (arith, block-is, in-block), omega (arith, jobs-add, jobs-here), omega (arith, weights-add, weight-here))
+  sums-within =
+      (omega (arith, block-is, in-block), omega (arith, block-is, in-block), omega (arith, jobs-add, jobs-here), omega (arith, weights-add, weight-here))
 
   module _ (rest : List ℕ) (long : length rest ≡ 5) (subtracted : (j : ℕ) → j < 5 → getD rest j 0 ≡ getD counts j 0 - getD left j 0) where
     at-rest : (x : ℕ) → 1 ≤ x → x ≤ 5 → at rest x ≡ at counts x - at left x
@@ -122,9 +125,9 @@ module _ {q : Queue} {l : Layout} {table left counts strides gaps : List ℕ} {g
 
     rest-at : (j : ℕ) → 1 ≤ j → j ≤ q .kinds → at rest j ≡ at (kAt (problem q) mirrored) j
     rest-at j a u =
-        let n = kAt (problem q) (k .index) in
-        rw (mirrored-is, others-at (problem q) (k .index) in-block)
-        (omega (arith, at-rest j a (omega (arith, s .looks .valid .kinds)), each j a u, at-others (problem q) n (left-digits (problem q) (k .index)) j a u))
+        let P = problem q in
+        rw (mirrored-is, others-at P (k .index) in-block)
+        (omega (arith, at-rest j a (omega (arith, s .looks .valid .kinds)), each j a u, at-others P (kAt P (k .index)) (left-digits P (k .index)) j a u))
 
     rest-past : (j : ℕ) → q .kinds < j → at rest j ≡ 0
     rest-past zero h = refl

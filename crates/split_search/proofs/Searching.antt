@@ -64,7 +64,8 @@ pub record Searching (q : Queue) (second : ℕ) (left : List ℕ) (best : Split)
 
 module _ {q : Queue} {l : Layout} {table : List ℕ} {second : ℕ} (g : Given q l table second) where
   pub search-none : {c : Cost} → c ≡ costIn (q .goal) (2 ^ 64 - 1)
-      → Searching q second (replicate 5 0) (record { cost = c; index = 0; jobs = 0; counts = replicate 5 0 }) (record { index = 0; jobs = 0; weight = 0 })
+      → Searching q second (replicate 5 0) (record { cost = c; index = 0; jobs = 0; counts = replicate 5 0 })
+      (record { index = 0; jobs = 0; weight = 0 })
   search-none e =
       let n = number-is (q .goal) (2 ^ 64 - 1) e in
       record {
@@ -77,10 +78,12 @@ module _ {q : Queue} {l : Layout} {table : List ℕ} {second : ℕ} (g : Given q
         };
       }
 
-  module _ {left : List ℕ} {k : JobsLeft} (left-is : LeftAt (problem q) left (k .index)) (sums-are : Summed (q .weights) (take (q .kinds) left) (k .jobs) (k .weight)) where
+  module _ {left : List ℕ} {k : JobsLeft} (left-is : LeftAt (problem q) left (k .index))
+      (sums-are : Summed (q .weights) (take (q .kinds) left) (k .jobs) (k .weight)) where
     -- what the cost of the split with these counts is found from
     pub splits : {total : ℕ} → total ≡ weigh (weight q) (take (l .size .kinds) (l .counts))
-        → SplitsAt q l table left (l .counts) (l .strides) (q .gaps) (q .goal) (record { size = l .size; weight = total; start = q .start; second = second }) k
+        → SplitsAt q l table left (l .counts) (l .strides) (q .gaps) (q .goal)
+        (record { size = l .size; weight = total; start = q .start; second = second }) k
     splits e = record {
       looks = record {
         valid = g .valid;
@@ -164,7 +167,8 @@ module _ {q : Queue} {l : Layout} {table : List ℕ} {second : ℕ} (g : Given q
 
     module _ {left′ : List ℕ} {k′ : JobsLeft} {r : Split} (better : r ≡ firstOf (l .size .kinds) best new) where
       pub search-more : length left′ ≡ length left
-          → take (l .size .kinds) left′ ≡ next (take (l .size .kinds) (l .counts)) (take (l .size .kinds) left) → drop (l .size .kinds) left′ ≡ drop (l .size .kinds) left
+          → take (l .size .kinds) left′ ≡ next (take (l .size .kinds) (l .counts)) (take (l .size .kinds) left)
+          → drop (l .size .kinds) left′ ≡ drop (l .size .kinds) left
           → Summed (q .weights) (take (l .size .kinds) left′) (k′ .jobs) (k′ .weight) → k′ .index ≡ k .index + 1 → Searching q second left′ r k′
       search-more same stepped rest summed e =
           let e′ : k′ .index ≡ suc (k .index) = e ∙ add-one (k .index) in

@@ -101,15 +101,12 @@ module _ {q : Queue} {l : Layout} {table : List ℕ} {second : ℕ} (g : Given q
   few {left} {i} w j a u = omega (arith, left-at w j a u, left-digits (problem q) i .within j, counts-at (g .valid) (g .prepared) j a)
 
   -- both looks find something
-  first-found : costToGo (problem q) (q .start) (kAt (problem q) (r .index)) ≢ none
-  first-found n =
-      let (_, _, f, _, _) = taken-looks (problem q) permitted (proper q (g .valid)) second (r .index) (cost .0) (numberOf (r .cost)) (b .counts-are .within) (b .taken) (cost .1) in
-      none-some _ (sym n ∙ f)
-
-  second-found : costToGo (problem q) second (kAt (problem q) (block (problem q) - 1 - r .index)) ≢ none
-  second-found n =
-      let (_, _, _, f, _) = taken-looks (problem q) permitted (proper q (g .valid)) second (r .index) (cost .0) (numberOf (r .cost)) (b .counts-are .within) (b .taken) (cost .1) in
-      none-some _ (sym n ∙ f)
+  found : (costToGo (problem q) (q .start) (kAt (problem q) (r .index)) ≢ none)
+      × (costToGo (problem q) second (kAt (problem q) (block (problem q) - 1 - r .index)) ≢ none)
+  found =
+      let (x, y, f, h, _) =
+      taken-looks (problem q) permitted (proper q (g .valid)) second (r .index) (cost .0) (numberOf (r .cost)) (b .counts-are .within) (b .taken) (cost .1) in
+      ((λ n. none-some x (sym n ∙ f)), (λ n. none-some y (sym n ∙ h)))
 
   pub first-share : ShareFrom q l (r .counts) (r .counts) (r .index) (r .jobs) (q .start)
   first-share = record {
@@ -119,7 +116,7 @@ module _ {q : Queue} {l : Layout} {table : List ℕ} {second : ℕ} (g : Given q
     jobs-are = b .jobs-are;
     within = λ j a u. (omega arith, few (b .counts-are) j a u);
     row-in = g .valid .start;
-    found = first-found;
+    found = found .0;
   }
 
   -- the first cutter's part, as its cost was found
@@ -141,7 +138,7 @@ module _ {q : Queue} {l : Layout} {table : List ℕ} {second : ℕ} (g : Given q
         jobs-are = looks .sums-are .jobs-are ∙ ap sum (looks .left-is .here);
         within = λ j a u. (few (looks .left-is) j a u, omega arith);
         row-in = g .second-in;
-        found = rw (mirrored-is part) second-found;
+        found = rw (mirrored-is part) (found .1);
       }
 
   pub first-order-is : orderFrom (problem q) (r .counts) (q .start) (kAt (problem q) (r .index)) ≡ firstOrder (problem q) second
@@ -161,4 +158,4 @@ module _ {q : Queue} {l : Layout} {table : List ℕ} {second : ℕ} (g : Given q
       rw (mirrored-is part)
       (ap (byHandInUpto P (l .counts) n) (walk-by P (sum n) second n x (λ _. refl))
       ∙ second-followed P permitted (proper q (g .valid)) second (r .index) (cost .0) (numberOf (r .cost)) (b .counts-are .within) (b .taken) (cost .1)
-      (l .counts) (λ x a _. counts-at (g .valid) (g .prepared) x a) x (λ _. refl))
+      (l .counts) (λ y a _. counts-at (g .valid) (g .prepared) y a) x (λ _. refl))

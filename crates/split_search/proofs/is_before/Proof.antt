@@ -18,10 +18,16 @@ abbrev turn : tie.After-shared-slice-known2 Inv-loop μ-loop → tie.In-loop Inv
 turn c = c .before .before
 
 returns : tie.Need-returns Inv-loop μ-loop
-returns c = let t = turn (c .before) in let p = t .before .before .pre in sym (compare-out (t .before .loop .inv) (p .0) (p .1) (t .loop-test .taken) (c .if1 .taken))
+returns c =
+    let t = turn (c .before) in
+    let p = t .before .before .pre in
+    sym (compare-out (t .before .loop .inv) (p .0) (p .1) (t .loop-test .taken) (c .if1 .taken))
 
 loop-again : tie.Need-loop-again Inv-loop μ-loop
-loop-again c = let t = turn (c .before) in let p = t .before .before .pre in compare-more (t .before .loop .inv) (p .0) (p .1) (t .loop-test .taken) (c .if1 .left)
+loop-again c =
+    let t = turn (c .before) in
+    let p = t .before .before .pre in
+    compare-more (t .before .loop .inv) (p .0) (p .1) (t .loop-test .taken) (c .if1 .left)
 
 pub is-before-spec : {M : Type 1} → statement M
 is-before-spec =

@@ -34,7 +34,8 @@ weight-left-requires c κs = let e = entry c in let s = e .pre .0 in may-weigh (
 look-requires : tie.Need-look-requires
 look-requires c κs =
     let e = entry (weighed c .before) in
-    (e .args .queue, e .args .layout, (share-looks (e .pre .0) (e .pre .1 .0) (e .pre .1 .1) (sized e .1) (weighed c .weight-left .ensures), e .pre .0 .row-in))
+    let looks = share-looks (e .pre .0) (e .pre .1 .0) (e .pre .1 .1) (sized e .1) (weighed c .weight-left .ensures) in
+    (e .args .queue, e .args .layout, (looks, e .pre .0 .row-in))
 
 found : (c : tie.After-look) → let a = start c .args in LookedUp (a .queue) (a .row) (kAt (problem (a .queue)) (a .index)) (c .look .result)
 found c =

@@ -25,7 +25,16 @@ start c = entry (c .before)
 given : (c : tie.Start) → Given (c .args .queue) (c .args .layout) (c .args .table .now) (c .args .second)
 given c =
     let (v, (p, (full, (room, (covering, second-in))))) = c .pre .0 in
-    record { valid = v; prepared = p; filled = full; room = room; covering = covering; second-in = second-in; gaps-long = search needs; weights-long = search needs }
+    record {
+      valid = v;
+      prepared = p;
+      filled = full;
+      room = room;
+      covering = covering;
+      second-in = second-in;
+      gaps-long = search needs;
+      weights-long = search needs;
+    }
 
 long : (c : tie.After-others) → length (c .others .result) ≡ 5
 long c = search needs
