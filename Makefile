@@ -7,9 +7,9 @@ SEED := $(shell date +%s)
 
 VERSION = $(shell sed -n 's/^.define KIPPERTARN_VERSION "\(.*\)"/\1/p' include/kippertarn.h)
 PC = sed 's|@VERSION@|$(VERSION)|;s|@PREFIX@|$(1)|' kippertarn.pc.in
-TESTS = cases source limits messages random orders
+TESTS = cases source limits messages random orders splits
 PROGRAMS = $(TESTS:%=target/c/%)
-HEADERS = include/kippertarn.h examples/messages.h tests/c/reference.h tests/c/lent.h tests/c/queues.h bench/plain.h
+HEADERS = include/kippertarn.h examples/messages.h tests/c/reference.h tests/c/reference_split.h tests/c/lent.h tests/c/queues.h bench/plain.h
 INSTALLED = target/include/kippertarn.h target/include/kippertarn_messages.h
 RUNS = $(addprefix run-,program header agreement reached archive example text picture $(TESTS))
 
@@ -22,14 +22,15 @@ help: ## this list
 MADE_OF = find crates crates.txt include kippertarn.pc.in -name must-fail -prune -o -type f -print | LC_ALL=C sort | xargs sha256sum | sha256sum
 
 # What is no queue is said before anything is built.
-run: ## a queue planned and drawn; QUEUE=FILE is a message or a text
+run: ## a queue planned and drawn; QUEUE=FILE is a message or a text, SECOND_START=KIND splits it over two cutters
 	@python3 tools/queue_text.py pack "$(QUEUE)" > /dev/null < /dev/null
 ifneq ($(origin ARCHIVE),command line)
 	@[ "$$($(MADE_OF))" = "$$(cat target/lib/made-of 2> /dev/null)" ] || $(MAKE) --no-print-directory lib
 endif
 	@$(MAKE) --no-print-directory -s ARCHIVE=$(ARCHIVE) target/c/answer
 	@mkdir -p target/run
-	@queue="$(QUEUE)" && name=$${queue##*/} && python3 tools/queue_text.py plan "$$queue" "target/run/$${name%.*}.svg"
+	@queue="$(QUEUE)" && name=$${queue##*/} && python3 tools/queue_text.py \
+		$(if $(SECOND_START),split "$(SECOND_START)" "$$queue",plan "$$queue" "target/run/$${name%.*}.svg")
 
 # Every crate proved from nothing, with the edits that must be refused; then the tests from C, on the archive of these proofs. The last line is the
 # toolchain's own `N passed, 0 failed`, held back until the tests have passed.
@@ -51,7 +52,7 @@ lib: $(INSTALLED) ## the archive, both headers and a pkg-config file, in target/
 	@command -v rt > /dev/null || { echo "The part is built with the Rattle toolchain: no command rt here"; exit 1; }
 	@echo "Building the part: its crates are proved, then compiled. From nothing that takes about two minutes on two cores."
 	@mkdir -p target/lib/pkgconfig && rm -f target/lib/made-of && $(MADE_OF) > target/lib/made-of.part
-	@sh tools/crate_lines.sh rt check planner plan_reader $(ALSO)
+	@sh tools/crate_lines.sh rt check splitter plan_reader $(ALSO)
 	@sh tools/crate_lines.sh rt staticlib kippertarn
 	@cp target/staticlib/libkippertarn.a target/lib/libkippertarn.a
 	@$(call PC,$(CURDIR)/target) > target/lib/pkgconfig/kippertarn.pc
@@ -77,7 +78,7 @@ target/c/%: tests/c/%.c $(ARCHIVE) $(HEADERS)
 	@mkdir -p target/c
 	$(CC) $(CFLAGS) -pthread -Iinclude $< $(ARCHIVE) -o $@
 
-target/c/plan: examples/plan.c $(ARCHIVE) $(HEADERS)
+target/c/plan target/c/split: target/c/%: examples/%.c $(ARCHIVE) $(HEADERS)
 	@mkdir -p target/c
 	$(CC) $(CFLAGS) -Iinclude $< $(ARCHIVE) -o $@
 
@@ -108,8 +109,8 @@ run-reached:
 	@python3 tools/reached-definitions --check
 run-archive:
 	@sh tests/c/archive.sh $(ARCHIVE)
-run-example: target/c/plan
-	@sh tests/c/example.sh target/c/plan
+run-example: target/c/plan target/c/split
+	@sh tests/c/example.sh target/c/plan target/c/split
 run-text:
 	@python3 tools/queue_text.py --self-test
 run-picture: target/c/answer target/bin/plan_queue
@@ -120,18 +121,19 @@ $(TESTS:%=run-%): run-%: target/c/%
 # Random tests with new seeds, for SECONDS seconds in all; `SEED=n` repeats a run.
 soak: $(PROGRAMS) ## the random ones with new seeds, for SECONDS=60 in all
 	target/c/limits 5000 $(SEED)
-	target/c/messages 0 $(SEED) $$(($(SECONDS) / 3))
-	target/c/random 0 $(SEED) $$(($(SECONDS) / 3))
-	target/c/orders 0 $(SEED) $$(($(SECONDS) / 3))
+	target/c/messages 0 $(SEED) $$(($(SECONDS) / 4))
+	target/c/random 0 $(SEED) $$(($(SECONDS) / 4))
+	target/c/orders 0 $(SEED) $$(($(SECONDS) / 4))
+	target/c/splits 0 $(SEED) $$(($(SECONDS) / 4))
 
 # The same tests, fewer rounds, each load and store watched.
 valgrind: $(PROGRAMS) ## the same with fewer rounds, each load and store watched
 	@command -v valgrind > /dev/null || { echo "valgrind is not installed"; exit 1; }
-	@set -e; for test in cases source "limits 20" "messages 5000" "random 2000" "orders 500"; do \
+	@set -e; for test in cases source "limits 20" "messages 5000" "random 2000" "orders 500" "splits 1000"; do \
 		valgrind -q --error-exitcode=1 target/c/$$test; done
 
-# Time and stack of planning, beside a planner written by hand in C.
-bench: target/c/bench ## time and stack, beside a planner written by hand in C
+# Time and stack of planning and splitting, beside both written by hand in C.
+bench: target/c/bench ## time and stack, beside planning and splitting written by hand in C
 	target/c/bench
 
 clean: ## removes all that was built

@@ -1,4 +1,4 @@
-/* Time and stack of the planning call, beside a planner written by hand in C and compiled at -O3: same messages, same
+/* Time and stack of planning and splitting, beside both written by hand in C and compiled at -O3: same messages, same
  * tables, same answers. */
 #define _DEFAULT_SOURCE /* for clock_gettime and threads with a stack of their own */
 
@@ -9,13 +9,23 @@
 #include <stdio.h>
 #include <time.h>
 
-typedef uint64_t planner(const uint8_t *, uint64_t, uint64_t *, uint64_t, uint8_t *, uint64_t);
+/* The two calls of a planner. */
+struct planner {
+    uint64_t (*plan)(const uint8_t *, uint64_t, uint64_t *, uint64_t, uint8_t *, uint64_t);
+    uint64_t (*split)(const uint8_t *, uint64_t, uint32_t, uint64_t *, uint64_t, uint8_t *, uint64_t);
+};
 
-static planner *const part = kippertarn_plan;
-static planner *volatile const by_hand = plain_plan; /* volatile: called like the part, not melted into the loop */
+/* volatile: both are called in the same way, and neither is melted into a loop */
+static const volatile struct planner part = { kippertarn_plan, kippertarn_split },
+                                     by_hand = { plain_plan, plain_split };
 
-/* A queue to plan, and what it is planned in. */
+/* A plan; a split over cutters that cut kinds 2 and 1 last; a split over two cold cutters. */
+enum call { PLAN, SPLIT, COLD_SPLIT };
+
+/* A queue to plan, or to split, and what that is done in. */
 struct work {
+    enum call call;
+    uint32_t second_start;
     uint8_t message[KIPPERTARN_QUEUE_BYTES], plan[KIPPERTARN_PLAN_BYTES];
     size_t length, entries;
     uint64_t *table;
@@ -31,12 +41,20 @@ static double now(void)
     return (double)t.tv_sec * 1e3 + (double)t.tv_nsec / 1e6;
 }
 
+/* Plans or splits in this table and this plan buffer. */
+static uint64_t answer(const volatile struct planner *by, const struct work *w, uint64_t *table, uint8_t *plan)
+{
+    return w->call == PLAN
+               ? by->plan(w->message, w->length, table, w->entries, plan, KIPPERTARN_PLAN_BYTES)
+               : by->split(w->message, w->length, w->second_start, table, w->entries, plan, KIPPERTARN_PLAN_BYTES);
+}
+
 /* Milliseconds of one call, over `times` calls. The table is as the last call left it: it is not cleared first. */
-static double time_calls(planner *plan, struct work *w, unsigned times)
+static double time_calls(const volatile struct planner *by, struct work *w, unsigned times)
 {
     double start = now();
     for (unsigned i = 0; i < times; i++)
-        plan(w->message, w->length, w->table, w->entries, w->plan, sizeof w->plan);
+        answer(by, w, w->table, w->plan);
     return (now() - start) / times;
 }
 
@@ -46,16 +64,16 @@ struct size {
 };
 
 /* Chapter 5's gaps and pupils, with two kinds more. */
-static void make_queue(struct work *w, const struct size *size, unsigned goal, unsigned shift)
+static void make_queue(struct work *w, enum call call, const struct size *size, unsigned goal, unsigned shift)
 {
-    static const unsigned rows[6][5] = { { 0 },
+    static const unsigned rows[6][5] = { { 105, 130, 165, 120, 95 },
                                          { 96, 181, 228, 140, 75 },
                                          { 72, 80, 117, 101, 90 },
                                          { 72, 80, 90, 133, 118 },
                                          { 84, 95, 160, 77, 121 },
                                          { 110, 70, 99, 150, 85 } };
     static const unsigned pupils[5] = { 300, 150, 100, 220, 60 };
-    struct kippertarn_queue_record q = { .kinds = size->kinds, .goal = goal, .shift = shift, .start = 2 };
+    struct kippertarn_queue_record q = { .kinds = size->kinds, .goal = goal, .shift = shift, .start = call == COLD_SPLIT ? 0 : 2 };
     memcpy(q.gap, rows, sizeof rows);
     memcpy(q.pupils, pupils, sizeof pupils);
     for (unsigned j = 0; j < size->kinds; j++) {
@@ -66,8 +84,11 @@ static void make_queue(struct work *w, const struct size *size, unsigned goal, u
         for (unsigned j = 0; j < size->kinds; j++)
             if (round < size->jobs[j])
                 q.kind[q.jobs++] = j + 1;
+    w->call = call;
+    w->second_start = call == COLD_SPLIT ? 0 : 1;
     w->length = kippertarn_write_queue_record(&q, w->message, sizeof w->message);
-    w->entries = (size_t)KIPPERTARN_V(part(w->message, w->length, NULL, 0, w->plan, sizeof w->plan));
+    w->entries = 0;
+    w->entries = (size_t)KIPPERTARN_V(answer(&part, w, NULL, w->plan));
 }
 
 /* Both planners leave the same answer, plan and table. */
@@ -75,16 +96,17 @@ static int same_answers(struct work *w)
 {
     uint64_t *other = malloc(w->entries * sizeof *other);
     uint8_t plan[KIPPERTARN_PLAN_BYTES];
-    uint64_t answer = part(w->message, w->length, w->table, w->entries, w->plan, sizeof w->plan);
-    int same = other && by_hand(w->message, w->length, other, w->entries, plan, sizeof plan) == answer
+    uint64_t got = answer(&part, w, w->table, w->plan);
+    int same = other && KIPPERTARN_R(got) == KIPPERTARN_DONE && answer(&by_hand, w, other, plan) == got
                && memcmp(other, w->table, w->entries * sizeof *other) == 0
-               && memcmp(plan, w->plan, (size_t)KIPPERTARN_V(answer)) == 0;
+               && memcmp(plan, w->plan, (size_t)KIPPERTARN_V(got)) == 0;
     free(other);
     return same;
 }
 
 /* One line of the benchmark. */
 struct row {
+    enum call call;
     const struct size *size;
     unsigned goal, shift;
     size_t entries;
@@ -94,25 +116,40 @@ struct row {
 /* Times both in turn, and keeps the best of each. */
 static void measure(struct work *w, struct row *r)
 {
-    make_queue(w, r->size, r->goal, r->shift);
+    make_queue(w, r->call, r->size, r->goal, r->shift);
     if (!same_answers(w)) {
-        printf("FAILED: the planners differ at %zu entries, goal %u, shift %u\n", w->entries, r->goal, r->shift);
+        printf("FAILED: the %s differ at %zu entries, goal %u, shift %u\n", r->call == PLAN ? "plans" : "splits", w->entries,
+               r->goal, r->shift);
         exit(1);
     }
     r->entries = w->entries;
     for (int round = 0; round < ROUNDS; round++) {
         unsigned times = (unsigned)(200000 / w->entries) + 1;
-        double a = time_calls(part, w, times), b = time_calls(by_hand, w, times);
+        double a = time_calls(&part, w, times), b = time_calls(&by_hand, w, times);
         r->part = r->part == 0 || a < r->part ? a : r->part;
         r->by_hand = r->by_hand == 0 || b < r->by_hand ? b : r->by_hand;
     }
 }
 
-static void print_row(const struct row *r)
+static void print_rows(const char *what, const struct row *r, int count)
 {
-    double per_entry = 1e6 / (double)r->entries;
-    printf("%9zu %5u %4u %5u %11.4f %9.2f %11.4f %9.2f %7.2f\n", r->entries, r->size->kinds, r->goal, r->shift, r->part,
-           r->part * per_entry, r->by_hand, r->by_hand * per_entry, r->part / r->by_hand);
+    printf("%s\n%9s %5s %4s %5s %11s %9s %11s %9s %7s\n", what, "entries", "kinds", "goal", "shift", "part ms",
+           "ns/entry", "by hand ms", "ns/entry", "ratio");
+    for (; count > 0; count--, r++) {
+        double per_entry = 1e6 / (double)r->entries;
+        printf("%9zu %5u %4u %5u %11.4f %9.2f %11.4f %9.2f %7.2f\n", r->entries, r->size->kinds, r->goal, r->shift,
+               r->part, r->part * per_entry, r->by_hand, r->by_hand * per_entry, r->part / r->by_hand);
+    }
+}
+
+static void print_growth(const struct row *r, int count)
+{
+    printf("Growth under goal 2, from each size to the next:");
+    for (int i = 1; i < count; i++) {
+        double work = (double)(r[i].entries * r[i].size->kinds) / (double)(r[i - 1].entries * r[i - 1].size->kinds);
+        printf(" entries x kinds by %.1f, time by %.1f%s", work, r[i].part / r[i - 1].part,
+               i + 1 < count ? ";" : "\n");
+    }
 }
 
 #define STACK (1024 * 1024)
@@ -120,7 +157,7 @@ static uint8_t stack[STACK] __attribute__((aligned(4096)));
 
 struct measured {
     struct work *work;
-    int entry; /* which of the three entries */
+    int entry; /* which of the four entries */
     size_t used;
 };
 
@@ -131,8 +168,10 @@ static void call(const struct measured *m)
         kippertarn_check_queue(w->message, w->length);
     else if (m->entry == 1)
         kippertarn_check_plan(w->plan, sizeof w->plan);
+    else if (m->entry == 2)
+        kippertarn_plan(w->message, w->length, w->table, w->entries, w->plan, sizeof w->plan);
     else
-        part(w->message, w->length, w->table, w->entries, w->plan, sizeof w->plan);
+        kippertarn_split(w->message, w->length, w->second_start, w->table, w->entries, w->plan, sizeof w->plan);
 }
 
 /* Runs in a thread on the stack above: paints what lies well below this frame, calls, and looks how far down the paint
@@ -171,16 +210,25 @@ static const struct size sizes[] = {
     { 5, { 7, 6, 6, 6, 6 } },
     { 5, { 12, 12, 12, 12, 12 } },
 };
-enum { SIZES = sizeof sizes / sizeof *sizes, ROWS = 2 * SIZES + 2 };
+enum {
+    SIZES = sizeof sizes / sizeof *sizes,
+    PLANS = 2 * SIZES + 2,
+    SPLITS = 2 * SIZES,
+    COLD_SPLITS = 2 * SIZES,
+    ROWS = PLANS + SPLITS + COLD_SPLITS
+};
 
 int main(void)
 {
     static struct work w;
     static struct row rows[ROWS];
-    for (int i = 0; i < 2 * SIZES; i++)
-        rows[i] = (struct row){ &sizes[i % SIZES], i < SIZES ? 1 : 2, 60, 0, 0, 0 };
-    rows[ROWS - 2] = (struct row){ &sizes[0], 2, 5, 0, 0, 0 };
-    rows[ROWS - 1] = (struct row){ &sizes[SIZES - 1], 2, 6, 0, 0, 0 };
+    for (int i = 0; i < 2 * SIZES; i++) {
+        rows[i] = (struct row){ PLAN, &sizes[i % SIZES], i < SIZES ? 1 : 2, 60, 0, 0, 0 };
+        rows[PLANS + i] = (struct row){ SPLIT, &sizes[i % SIZES], i < SIZES ? 1 : 2, 60, 0, 0, 0 };
+        rows[PLANS + SPLITS + i] = (struct row){ COLD_SPLIT, &sizes[i % SIZES], i < SIZES ? 1 : 2, 60, 0, 0, 0 };
+    }
+    rows[PLANS - 2] = (struct row){ PLAN, &sizes[0], 2, 5, 0, 0, 0 }; /* a split has no tight shift: it would be 19 */
+    rows[PLANS - 1] = (struct row){ PLAN, &sizes[SIZES - 1], 2, 6, 0, 0, 0 };
     w.table = malloc(KIPPERTARN_ENTRIES_MOST * sizeof *w.table);
     if (!w.table)
         return 1;
@@ -188,20 +236,14 @@ int main(void)
         for (int i = 0; i < ROWS; i++)
             measure(&w, &rows[i]);
     printf("Processor time, best of %d in turn; the table is not cleared between calls.\n", PASSES * ROUNDS);
-    printf("%9s %5s %4s %5s %11s %9s %11s %9s %7s\n", "entries", "kinds", "goal", "shift", "part ms", "ns/entry",
-           "by hand ms", "ns/entry", "ratio");
-    for (int i = 0; i < ROWS; i++)
-        print_row(&rows[i]);
-    printf("Growth under goal 2, from each size to the next:");
-    for (int i = SIZES + 1; i < 2 * SIZES; i++) {
-        double work = (double)(rows[i].entries * rows[i].size->kinds)
-                      / (double)(rows[i - 1].entries * rows[i - 1].size->kinds);
-        printf(" entries x kinds by %.1f, time by %.1f%s", work, rows[i].part / rows[i - 1].part,
-               i + 1 < 2 * SIZES ? ";" : "\n");
-    }
-    make_queue(&w, &sizes[SIZES - 1], 2, 60);
-    printf("Bytes of stack: check_queue %zu, check_plan %zu, plan %zu\n", stack_used(&w, 0), stack_used(&w, 1),
-           stack_used(&w, 2));
+    print_rows("Planning", rows, PLANS);
+    print_growth(rows + SIZES, SIZES);
+    print_rows("Splitting over two cutters", rows + PLANS, SPLITS);
+    print_growth(rows + PLANS + SIZES, SIZES);
+    print_rows("Splitting over two cold cutters", rows + PLANS + SPLITS, COLD_SPLITS);
+    make_queue(&w, COLD_SPLIT, &sizes[SIZES - 1], 2, 60);
+    printf("Bytes of stack: check_queue %zu, check_plan %zu, plan %zu, split %zu\n", stack_used(&w, 0),
+           stack_used(&w, 1), stack_used(&w, 2), stack_used(&w, 3));
     free(w.table);
     return 0;
 }

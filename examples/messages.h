@@ -1,6 +1,6 @@
-/* Queue messages from a record, plan messages into one, and a sentence for each refusal: conveniences, installed as
- * kippertarn_messages.h. Unlike the part they are not proved; the part alone judges a message (kippertarn_check_queue,
- * kippertarn_check_plan). No library is called, so they serve without one. */
+/* Queue messages from a record, plan messages and split plans into one, and a sentence for each refusal: conveniences,
+ * installed as kippertarn_messages.h. Unlike the part they are not proved; the part alone judges a message
+ * (kippertarn_check_queue, kippertarn_check_plan). No library is called, so they serve without one. */
 #ifndef KIPPERTARN_MESSAGES_H
 #define KIPPERTARN_MESSAGES_H
 
@@ -26,6 +26,19 @@ struct kippertarn_plan_record {
     uint64_t cost, kept;
     unsigned jobs;                      /* T */
     unsigned job[KIPPERTARN_JOBS_MOST]; /* the job at each place */
+};
+
+/* The jobs of one cutter in a split plan. */
+struct kippertarn_cutter_record {
+    unsigned jobs;                      /* how many it has, 0 too */
+    unsigned job[KIPPERTARN_JOBS_MOST]; /* the job at each of its places, by the queue's numbers */
+};
+
+/* A split plan. */
+struct kippertarn_split_record {
+    unsigned goal;
+    uint64_t cost;
+    struct kippertarn_cutter_record first, second;
 };
 
 /* A place in a message being written; past its end once something did not fit. */
@@ -75,7 +88,7 @@ static inline uint64_t kippertarn_write_queue_record(const struct kippertarn_que
     return to.at <= room ? to.at : 0;
 }
 
-/* The next number of a plan that the part wrote or accepted. */
+/* The next number of a plan or split plan that the part wrote or accepted. */
 static inline uint64_t kippertarn_get_number(const uint8_t *message, uint64_t length, uint64_t *at)
 {
     uint64_t value = 0;
@@ -89,23 +102,43 @@ static inline uint64_t kippertarn_get_number(const uint8_t *message, uint64_t le
     return value;
 }
 
+/* The jobs that come next: how many, and the job at each place. Answers 1, or 0 where they are too many. */
+static inline int kippertarn_get_jobs(const uint8_t *message, uint64_t length, uint64_t *at, unsigned *jobs,
+                                      unsigned *job)
+{
+    uint64_t count = kippertarn_get_number(message, length, at);
+    if (count > KIPPERTARN_JOBS_MOST)
+        return 0;
+    *jobs = (unsigned)count;
+    for (unsigned place = 0; place < *jobs; place++)
+        job[place] = (unsigned)kippertarn_get_number(message, length, at);
+    return 1;
+}
+
 /* Takes apart a plan message that the part wrote or accepted. Answers 1, or 0 for bytes that are no such message. */
 static inline int kippertarn_read_plan_record(struct kippertarn_plan_record *plan, const uint8_t *message,
                                               uint64_t length)
 {
-    uint64_t at = 2, jobs;
+    uint64_t at = 2;
     if (length < 2 || message[0] != 0x51 || message[1] != 0x50 || kippertarn_get_number(message, length, &at) != 1)
         return 0;
     plan->goal = (unsigned)kippertarn_get_number(message, length, &at);
     plan->cost = kippertarn_get_number(message, length, &at);
     plan->kept = kippertarn_get_number(message, length, &at);
-    jobs = kippertarn_get_number(message, length, &at);
-    if (jobs > KIPPERTARN_JOBS_MOST)
+    return kippertarn_get_jobs(message, length, &at, &plan->jobs, plan->job) && at == length;
+}
+
+/* Takes apart a split plan that the part wrote. Answers 1, or 0 for bytes that are no such message. */
+static inline int kippertarn_read_split_record(struct kippertarn_split_record *split, const uint8_t *message,
+                                               uint64_t length)
+{
+    uint64_t at = 2;
+    if (length < 2 || message[0] != 0x51 || message[1] != 0x32 || kippertarn_get_number(message, length, &at) != 1)
         return 0;
-    plan->jobs = (unsigned)jobs;
-    for (unsigned place = 0; place < plan->jobs; place++)
-        plan->job[place] = (unsigned)kippertarn_get_number(message, length, &at);
-    return at == length;
+    split->goal = (unsigned)kippertarn_get_number(message, length, &at);
+    split->cost = kippertarn_get_number(message, length, &at);
+    return kippertarn_get_jobs(message, length, &at, &split->first.jobs, split->first.job)
+           && kippertarn_get_jobs(message, length, &at, &split->second.jobs, split->second.job) && at == length;
 }
 
 /* A sentence for R, which KIPPERTARN_R takes out of an answer. */
@@ -131,6 +164,8 @@ static inline const char *kippertarn_sentence(uint64_t r)
     case KIPPERTARN_TABLE: return "The table has fewer entries than the queue needs.";
     case KIPPERTARN_NO_ORDER: return "No order of the jobs is permitted.";
     case KIPPERTARN_JOB: return "A job of the plan is 0, over the number of jobs, or at an earlier place too.";
+    case KIPPERTARN_UNCOVERED: return "The shift plus 1 is under the number of jobs, or a place is barred to a kind.";
+    case KIPPERTARN_SECOND_START: return "The second cutter's start is over the number of kinds.";
     default: return "This version of the part does not answer so.";
     }
 }

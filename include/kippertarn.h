@@ -1,7 +1,7 @@
-/* Kippertarn: the best order of a benchtop cutter's queue, as a C part.
+/* Kippertarn: the best order of a benchtop cutter's queue, and its best split over two cutters, as a C part.
  *
- * A queue message goes in and a plan message comes out, or one refusal. Both messages are bytes; docs/MESSAGES.md has
- * their formats, every refusal and the table's entries in full.
+ * A queue message goes in and a plan message, or for two cutters a split plan, comes out; or one refusal. All messages
+ * are bytes; docs/MESSAGES.md has their formats, every refusal and the table's entries in full.
  *
  * What the caller owes, in every call: what is lent is as long as said; the table is aligned as uint64_t is; all of it
  * is the call's alone until it answers; and no part that may be written (table, plan) shares a byte with another. A
@@ -13,8 +13,8 @@
  *
  *     R            of the table                 of the plan buffer
  *     0            its first N x P entries      its first V bytes
- *     1 to 16      nothing                      nothing
  *     17           its first N x P entries      nothing
+ *     any other    nothing                      nothing
  *
  * Entries and bytes behind those keep what they had. */
 #ifndef KIPPERTARN_H
@@ -31,11 +31,12 @@ extern "C" {
 #endif
 
 /* The version of this header. kippertarn_version() answers that of the archive: they are to be the same. */
-#define KIPPERTARN_VERSION "1.2.0"
-#define KIPPERTARN_VERSION_NUMBER 1002000 /* 1000000 * major + 1000 * minor + patch */
+#define KIPPERTARN_VERSION "1.3.0"
+#define KIPPERTARN_VERSION_NUMBER 1003000 /* 1000000 * major + 1000 * minor + patch */
 
 #define KIPPERTARN_QUEUE_BYTES 178 /* the longest queue message that is accepted */
 #define KIPPERTARN_PLAN_BYTES 77   /* the longest plan message, and the least plan buffer that may be lent */
+#define KIPPERTARN_SPLIT_BYTES 72  /* the longest split plan; the buffer lent for it has KIPPERTARN_PLAN_BYTES too */
 
 /* The first so many bytes decide the answer for a message of any length: who reads a message from a file or a line
  * needs room for no more. */
@@ -62,14 +63,14 @@ extern "C" {
 /* A table entry whose state is not kept. */
 #define KIPPERTARN_NOT_KEPT UINT64_MAX
 
-/* An answer is R + 256 * V. R is 0 or the refusal. V is the bytes of the written plan where planning gave one, the
- * needed entries N x P for refusal 16, else 0. */
+/* An answer is R + 256 * V. R is 0 or the refusal. V is the bytes of the written plan or split plan where there is one,
+ * the needed entries N x P for refusal 16, else 0. */
 #define KIPPERTARN_R(answer) ((unsigned)((answer) & 255u))
 #define KIPPERTARN_V(answer) ((uint64_t)(answer) >> 8)
 
 /* R, by number. */
 enum kippertarn_refusal {
-    KIPPERTARN_DONE = 0,       /* accepted, or planned */
+    KIPPERTARN_DONE = 0,       /* accepted, planned or split */
     KIPPERTARN_OPENING = 1,    /* first two bytes missing or other */
     KIPPERTARN_ENDS = 2,       /* bytes end before a number's last group */
     KIPPERTARN_GROUPS = 3,     /* byte 00 ends a number of several groups, or the last group permitted has bit 7 set */
@@ -88,7 +89,9 @@ enum kippertarn_refusal {
     KIPPERTARN_BUFFER = 15,    /* plan buffer under 77 bytes */
     KIPPERTARN_TABLE = 16,     /* table under N x P entries; V is N x P */
     KIPPERTARN_NO_ORDER = 17,  /* no permitted order */
-    KIPPERTARN_JOB = 18        /* a job in a plan 0, over T, or at an earlier place */
+    KIPPERTARN_JOB = 18,       /* a job in a plan 0, over T, or at an earlier place */
+    KIPPERTARN_UNCOVERED = 19, /* for two cutters: shift + 1 under T, or a kind's allowed places do not cover 1 to T */
+    KIPPERTARN_SECOND_START = 20 /* the second start over N */
 };
 
 /* Whether a queue message is accepted: R is 0, or the one refusal of its reader, 1 to 14. */
@@ -106,6 +109,15 @@ uint64_t kippertarn_check_plan(const uint8_t *message, uint64_t length);
  * message is answered 16, V being N x P (at least 1), and nothing is written. */
 uint64_t kippertarn_plan(const uint8_t *message, uint64_t length, uint64_t *table, uint64_t entries, uint8_t *plan,
                          uint64_t plan_length);
+
+/* Splits a queue over two cutters, of which the message's start is the first's and `second_start` the second's (0 for a
+ * cold cutter, else the kind it cut last): R is 0 and the split plan stands in the plan buffer, V bytes long; or R is
+ * the first of the queue reader's refusal, 19, 20, 15 and 16 that applies. No other split of the jobs, in any order on
+ * either cutter, costs less. Table and plan buffer are lent as to kippertarn_plan, the table has the same size, and
+ * after R 0 it holds what kippertarn_plan leaves in it for the same message. Where 19 and 20 do not apply, a table of 0
+ * entries asks for its size as there. */
+uint64_t kippertarn_split(const uint8_t *message, uint64_t length, uint32_t second_start, uint64_t *table,
+                          uint64_t entries, uint8_t *plan, uint64_t plan_length);
 
 /* The version of the archive, as KIPPERTARN_VERSION_NUMBER has it. */
 uint64_t kippertarn_version(void);

@@ -1,7 +1,8 @@
-"""The picture of a planned queue: hand-in order above the best order, as bars along one time line, as text and as SVG.
+"""The picture of a planned queue: hand-in order above the best order, as bars along one time line, as text and as SVG;
+and the places of a queue that is split over two cutters.
 
-Nothing is planned here: the best order is the part's answer, and finishes and costs are document 01's sums over a queue
-and an order. A bar reaches from the finish before a job to the job's own. A convenience, not proved.
+Nothing is planned here: the best order and the split are the part's answers, and finishes and costs are document 01's
+sums over a queue and an order. A bar reaches from the finish before a job to the job's own. A convenience, not proved.
 """
 import itertools
 import textwrap
@@ -31,6 +32,17 @@ def cost(queue, order):
     return sum(queue.pupils[queue.jobs[job - 1] - 1] * end for job, end in zip(order, ends))
 
 
+def shares(queue, second, split):
+    """For each cutter the queue from its start, and its order."""
+    return [(queue, split.first), (queue._replace(start=second), split.second)]
+
+
+def split_cost(queue, second, split):
+    """The cost of a split under the queue's goal."""
+    costs = [cost(*share) for share in shares(queue, second, split)]
+    return max(costs) if queue.goal == 1 else sum(costs)
+
+
 def bars(queue, order):
     """Job, kind, begin and end of the bar at each place."""
     ends = finishes(queue, order)
@@ -56,18 +68,25 @@ def not_permitted(queue):
     return ""
 
 
+def measured(queue, amount):
+    """What a cost is, by the queue's goal."""
+    return ("last finish %d s" if queue.goal == 1 else "total waiting %d pupil-seconds") % amount
+
+
+def saved(queue, without, best):
+    """What is saved by the better of two costs."""
+    if without == best:
+        return "nothing saved"
+    return "saved %d%s (%.1f %%)" % (without - best, " s" * (queue.goal == 1), 100 * (without - best) / without)
+
+
 def sentences(queue, plan):
     """What is said of the hand-in order, why it is not permitted, and what is said of the best order."""
-    measure, unit, short = ("last finish", " s", " s") if queue.goal == 1 else ("total waiting", " pupil-seconds", "")
     without, best, why = cost(queue, hand_in(queue)), plan.cost, not_permitted(queue)
-    if why:
-        change = "%d%s %s than by hand-in" % (abs(without - best), short, "less" if best <= without else "more")
-    elif without > best:
-        change = "saved %d%s (%.1f %%)" % (without - best, short, 100 * (without - best) / without)
-    else:
-        change = "nothing saved"
-    return ("Hand-in order: %s %d%s" % (measure, without, unit), why,
-            "Best order: %s %d%s, %s" % (measure, best, unit, change))
+    change = "%d%s %s than by hand-in" % (abs(without - best), " s" * (queue.goal == 1),
+                                          "less" if best <= without else "more")
+    return ("Hand-in order: " + measured(queue, without), why,
+            "Best order: %s, %s" % (measured(queue, best), change if why else saved(queue, without, best)))
 
 
 def no_time_line(queue):
@@ -87,13 +106,31 @@ def wrapped(line, width):
     return textwrap.wrap(line, width, break_on_hyphens=False)
 
 
-def table(queue, plan, width):
-    """The queue in a line, then a line for each place: place, job, kind and finish."""
-    said = "jobs %d, kinds %d, goal %d, shift %d, start %d" % (len(queue.jobs), len(queue.pupils), *queue[:3])
+def heading(queue):
+    return "jobs %d, kinds %d, goal %d, shift %d, start %d" % (len(queue.jobs), len(queue.pupils), *queue[:3])
+
+
+def places(queue, order, width):
+    """A line for each place of an order: place, job, kind and finish."""
     form = "%5s %4s %5s %8s" if width > 24 else "%s %s %s %s"
-    rows = [("place", "job", "kind", "finish")] if queue.jobs else []
-    rows += [(place, job, kind, end) for place, (job, kind, _, end) in enumerate(bars(queue, plan.order), 1)]
-    return wrapped(said, width) + [""] * bool(rows) + [line for row in rows for line in wrapped(form % row, width)]
+    rows = [("place", "job", "kind", "finish")] if order else []
+    rows += [(place, job, kind, end) for place, (job, kind, _, end) in enumerate(bars(queue, order), 1)]
+    return [line for row in rows for line in wrapped(form % row, width)]
+
+
+def table(queue, plan, width):
+    """The queue in a line, then its places."""
+    return wrapped(heading(queue), width) + [""] * bool(queue.jobs) + places(queue, plan.order, width)
+
+
+def split_table(queue, second, split, alone, width):
+    """The queue in a line, then the places of each cutter, and what is saved beside the cost of one alone."""
+    lines = wrapped("%s, second start %d" % (heading(queue), second), width)
+    for name, share in zip(("First", "Second"), shares(queue, second, split)):
+        said = measured(queue, cost(*share)) if share[1] else "no jobs"
+        lines += [""] + wrapped("%s cutter: %s" % (name, said), width) + places(*share, width)
+    lines += [""] + wrapped("One cutter alone: " + measured(queue, alone), width)
+    return lines + wrapped("Two cutters: %s, %s" % (measured(queue, split.cost), saved(queue, alone, split.cost)), width)
 
 
 def cells(row, total, columns):

@@ -4,13 +4,15 @@
 usage: queue_text.py plan [QUEUE [SVG]]         a queue planned by the part: place, job, kind and finish, then the
                                                 picture; with a second file the picture as SVG too
        queue_text.py draw [QUEUE [SVG]]         the picture alone, as SVG
+       queue_text.py split SECOND [QUEUE]       a queue split by the part over two cutters: the same for each; SECOND is
+                                                the second cutter's start, the queue's own start the first's
        queue_text.py pack [QUEUE [MESSAGE]]     a queue's message
-       queue_text.py show [MESSAGE [TEXT]]      a queue or plan message into text
+       queue_text.py show [MESSAGE [TEXT]]      a queue, plan or split plan into text
        queue_text.py --self-test
 
-A QUEUE is a message or a text. Files default to standard input and output. `--entries N` behind plan or draw lends the
-part a table of at most N entries, where it is otherwise as long as the part asks. A text has one line for each of
-these, in any order; `#` starts a comment:
+A QUEUE is a message or a text. Files default to standard input and output. `--entries N` behind plan, draw or split
+lends the part a table of at most N entries, where it is otherwise as long as the part asks. A text has one line for each
+of these, in any order; `#` starts a comment:
 
     goal 1            # 1 last finish, 2 total waiting
     shift 1
@@ -23,9 +25,9 @@ these, in any order; `#` starts a comment:
     jobs 1 2 1        # the kind of each job, by hand-in
 
 N is the number of pupils; left out, goal is 1, shift 60, start 0 and every place allowed. Numbers are written as they
-stand: whether a message is accepted is for the part to say (kippertarn_check_queue), and plan and draw say which line it
-refused. They need the part, as `make run` builds it. The exit status is 0, 1 where nothing was planned or written, or 2
-for words like none of the above. This tool is a convenience and is not proved.
+stand: whether a message is accepted is for the part to say (kippertarn_check_queue), and plan, draw and split say which
+line it refused. They need the part, as `make run` builds it. The exit status is 0, 1 where nothing was planned or
+written, or 2 for words like none of the above. This tool is a convenience and is not proved.
 """
 import collections
 import os
@@ -45,6 +47,7 @@ MOST = 1 << 16                              # bytes that are read: far more than
 
 Queue = collections.namedtuple("Queue", "goal shift start gaps pupils places jobs")
 Plan = collections.namedtuple("Plan", "goal cost kept order")
+Split = collections.namedtuple("Split", "goal cost first second")
 
 NAMES = ("goal", "shift", "start", "gaps", "pupils", "places", "jobs")
 
@@ -67,26 +70,30 @@ class Numbers:
     def __init__(self, message):
         self.message, self.at = message, 2
 
+    def unreadable(self, said, refusal):
+        """What is wrong, with the refusal where a call of the part reads the message: none reads a split plan."""
+        return Unreadable(said + ("" if self.message[:2] == b"Q2" else " (refusal %s)" % refusal))
+
     def next(self, most_groups=3):
         value = 0
         for group in range(most_groups):
             if self.at == len(self.message):
-                raise Unreadable("bytes end in a number (refusal 2)")
+                raise self.unreadable("bytes end in a number", 2)
             byte = self.message[self.at]
             self.at += 1
             value |= (byte & 127) << 7 * group
             if byte < 128:
                 if byte == 0 and group > 0:
-                    raise Unreadable("byte 00 ends a number of several groups, before byte %d (refusal 3)" % self.at)
+                    raise self.unreadable("byte 00 ends a number of several groups, before byte %d" % self.at, 3)
                 return value
-        raise Unreadable("too many groups in a number, before byte %d (refusal 3)" % self.at)
+        raise self.unreadable("too many groups in a number, before byte %d" % self.at, 3)
 
     def run(self, count):
         return [self.next() for _ in range(count)]
 
     def end(self):
         if self.at < len(self.message):
-            raise Unreadable("%d bytes left over (refusal 14)" % (len(self.message) - self.at))
+            raise self.unreadable("%d bytes left over" % (len(self.message) - self.at), 14)
 
 
 def read_text(text):
@@ -149,7 +156,7 @@ def read_queue(message):
     numbers = Numbers(message)
     edition, kinds, goal, shift, start = numbers.run(5)
     if edition != 1 or not 1 <= kinds <= 5:
-        raise Unreadable("edition %d, N %d (refusal 4 or 5)" % (edition, kinds))
+        raise numbers.unreadable("edition %d, N %d" % (edition, kinds), "4 or 5")
     gaps = [numbers.run(kinds) for _ in range(kinds + 1)]
     pupils = numbers.run(kinds)
     places = [tuple(numbers.run(2)) for _ in range(kinds)]
@@ -159,18 +166,21 @@ def read_queue(message):
 
 
 def read_plan(message):
-    """The record of a plan message."""
+    """The record of a plan message or of a split plan."""
     numbers = Numbers(message)
     edition, goal = numbers.run(2)
     if edition != 1:
-        raise Unreadable("edition %d (refusal 4)" % edition)
-    plan = Plan(goal, numbers.next(6), numbers.next(6), numbers.run(numbers.next()))
+        raise numbers.unreadable("edition %d" % edition, 4)
+    if message[:2] == b"Q2":
+        plan = Split(goal, numbers.next(6), numbers.run(numbers.next()), numbers.run(numbers.next()))
+    else:
+        plan = Plan(goal, numbers.next(6), numbers.next(6), numbers.run(numbers.next()))
     numbers.end()
     return plan
 
 
 def show(message):
-    """The text of a queue or plan message."""
+    """The text of a queue, plan or split plan."""
     if message[:2] == b"QS":
         queue = read_queue(message)
         lines = ["goal %d" % queue.goal, "shift %d" % queue.shift, "start %d" % queue.start]
@@ -181,8 +191,12 @@ def show(message):
         plan = read_plan(message)
         lines = ["plan goal %d" % plan.goal, "cost %d" % plan.cost, "kept %d" % plan.kept]
         lines += ["order " + joined(plan.order)]
+    elif message[:2] == b"Q2":
+        split = read_plan(message)
+        lines = ["split goal %d" % split.goal, "cost %d" % split.cost]
+        lines += ["first " + joined(split.first), "second " + joined(split.second)]
     else:
-        raise Unreadable("the first two bytes are neither 51 53 nor 51 50 (refusal 1)")
+        raise Unreadable("the first two bytes are neither 51 53 nor 51 50 (refusal 1), nor 51 32")
     return "".join(line.rstrip() + "\n" for line in lines)
 
 
@@ -192,19 +206,19 @@ def queue_message(given):
         raise Unreadable("empty; a queue is expected, as a message or as a text")
     if given[:2] == b"QS":
         return given, []
-    if given[:2] == b"QP":
-        raise Unreadable("a plan message; a queue is expected")
+    if given[:2] in (b"QP", b"Q2"):
+        raise Unreadable("a %s; a queue is expected" % ("plan message" if given[:2] == b"QP" else "split plan"))
     text = given.decode("utf-8-sig", "replace")
     if len(given) > MOST or not all(sign.isprintable() or sign.isspace() for sign in text.replace("\ufffd", "\0")):
         raise Unreadable("no queue: neither a text nor a message, whose first two bytes are 51 53 (refusal 1)")
     return pack(text)
 
 
-def ask(message, entries=None):
-    """The part's answer to a queue message: R, V and the plan's bytes."""
+def ask(message, entries=None, second=None):
+    """The part's answer to a queue message, with a second start to its split: R, V and the bytes that it wrote."""
     if not PART.exists():
         raise Unreadable("not planned: the part is not built yet; `make run` builds it")
-    words = [str(PART)] + ([] if entries is None else [str(entries)])
+    words = [str(PART), str(2**64 - 1 if entries is None else entries)] + ([] if second is None else [str(second)])
     answer = subprocess.run(words, input=message, stdout=subprocess.PIPE, check=True).stdout
     numbers, plan = answer.split(b"\n", 1)
     return tuple(map(int, numbers.split())) + (plan,)
@@ -226,34 +240,80 @@ def line_of(message, lines, refusal):
     return lines[sum(byte < 128 for byte in message[2:least - 1])]
 
 
+def in_the_way(queue):
+    """The settings that keep a queue from two cutters, each with its place among the message's numbers."""
+    jobs, kinds = len(queue.jobs), len(queue.pupils)
+    if queue.shift + 1 < jobs:
+        yield 3, "The shift is %d, and %d jobs need %d." % (queue.shift, jobs, jobs - 1)
+    for at, (first, last) in enumerate(queue.places if jobs else []):
+        if first > 1 or last < jobs:
+            yield (5 + kinds * (kinds + 2) + 2 * at,
+                   "The places of kind %d are %d-%d, and %d jobs need 1-%d." % (at + 1, first, last, jobs, jobs))
+
+
+def refuse(message, lines, second, refusal, value):
+    """Says what was refused, of a text also where, and what would do."""
+    line, said = 0, ["refused %d:" % refusal, sentences()[refusal]]
+    if refusal == 16:
+        said.append("It needs %d entries." % value)
+    elif refusal == 19:
+        for at, more in in_the_way(read_queue(message)):
+            line = line or (lines[at] if lines else 0)
+            said.append(more)
+    elif refusal == 20:
+        said.append("The second start is %d, and the kinds are %d." % (second, len(read_queue(message).pupils)))
+    elif lines and 3 <= refusal <= 13:
+        line = line_of(message, lines, refusal)
+    raise Unreadable(joined(["line %d:" % line] * bool(line) + said))
+
+
+def answered(given, entries, second=None):
+    """A queue and the part's plan for it, or with a second start its split plan."""
+    message, lines = queue_message(given)
+    refusal, value, plan = ask(message, entries, second)
+    if refusal:
+        refuse(message, lines, second, refusal, value)
+    return read_queue(message), read_plan(plan)
+
+
 def plan_of(given, entries):
     """A queue and the part's plan for it."""
-    message, lines = queue_message(given)
-    refusal, value, plan = ask(message, entries)
-    if refusal:
-        line = line_of(message, lines, refusal) if lines and 3 <= refusal <= 13 else 0
-        raise Unreadable("%srefused %d: %s%s" % ("line %d: " % line if line else "", refusal, sentences()[refusal],
-                                                 " It needs %d entries." % value if refusal == 16 else ""))
-    queue, plan = read_queue(message), read_plan(plan)
+    queue, plan = answered(given, entries)
     if picture.cost(queue, plan.order) != plan.cost:
         raise Unreadable("the plan's cost is %d, and its order's %d" % (plan.cost, picture.cost(queue, plan.order)))
     return queue, plan
 
 
+def split_of(given, entries, second):
+    """A queue and the part's split plan for it."""
+    queue, split = answered(given, entries, second)
+    if sorted(split.first + split.second) != picture.hand_in(queue):
+        raise Unreadable("the split plan's jobs are not the queue's")
+    if picture.split_cost(queue, second, split) != split.cost:
+        raise Unreadable("the split plan's cost is %d, and its orders' %d"
+                         % (split.cost, picture.split_cost(queue, second, split)))
+    return queue, split
+
+
 CASE_A = bytes.fromhex("51530102010100 0A0A 1432 281E 0301 013C 013C 03 010201")
 NO_JOBS = bytes.fromhex("51530101013C00 FFFF03 00 8001 01 3C 00")
 PLAN_B = bytes.fromhex("51500102C801 07 03 010302")
+SPLIT_A = bytes.fromhex("51320101 1E 01 02 02 0103")
+NONE_SPLIT = bytes.fromhex("51320102 00 00 00")
 
 
 def self_test():
     """Document 01's cases, every example file there and back, and texts and bytes that are refused."""
     checks = [pack(show(CASE_A))[0] == CASE_A,
               show(PLAN_B) == "plan goal 2\ncost 200\nkept 7\norder 1 3 2\n",
+              show(SPLIT_A) == "split goal 1\ncost 30\nfirst 2\nsecond 1 3\n",
+              show(NONE_SPLIT) == "split goal 2\ncost 0\nfirst\nsecond\n",
               pack("gaps 65535 # row 0\ngaps 0\npupils 128\n")[0] == NO_JOBS,
               pack(__doc__.split("comment:\n")[1].split("N is")[0])[0] == CASE_A]
     examples = sorted((ROOT / "examples").glob("*.queue"))
     checks += [pack(show(path.read_bytes()))[0] == path.read_bytes() for path in examples]
-    for bad in [b"", b"Q", b"QT", CASE_A[:-1], CASE_A + b"\1", b"QS\x81\0", b"QS\x81", b"QS\2", b"QP\x80\x80\x80\1"]:
+    for bad in [b"", b"Q", b"QT", CASE_A[:-1], CASE_A + b"\1", b"QS\x81\0", b"QS\x81", b"QS\2", b"QP\x80\x80\x80\1",
+                SPLIT_A[:-1], SPLIT_A + b"\1", b"Q2\2\1\0\0\0"]:
         checks.append(refused(show, bad))
     for bad in ["goal", "goal 1 2", "goal x", "gaol 1", "goal 1\ngoal 1", "shift -1", "pupils 1",
                 "gaps 1\ngaps 2\npupils 1\nplaces 1"]:
@@ -294,18 +354,22 @@ def write_file(name, made):
             part.unlink(missing_ok=True)
 
 
-def act(name, given, out, entries):
+def act(name, given, out, entries, second):
     """What a sub-command does with what it was given."""
+    width = max(20, min(shutil.get_terminal_size().columns, 200))
     if name == "pack":
         return write_file(out, queue_message(given)[0])
     if name == "show":
         return write_file(out, show(given).encode())
+    if name == "split":
+        queue, split = split_of(given, entries, second)
+        alone = plan_of(given, entries)[1].cost
+        return print("\n".join(picture.split_table(queue, second, split, alone, width)))
     queue, plan = plan_of(given, entries)
     if name == "draw":
         return write_file(out, picture.as_svg(queue, plan).encode())
     if out:
         write_file(out, picture.as_svg(queue, plan).encode())
-    width = max(20, min(shutil.get_terminal_size().columns, 200))
     coloured = sys.stdout.isatty() and os.environ.get("TERM", "dumb") != "dumb" and not os.environ.get("NO_COLOR")
     lines = picture.table(queue, plan, width) + [""] + picture.as_text(queue, plan, width, coloured)
     print("\n".join(lines + ["", "%s has the picture too" % out] * bool(out)))
@@ -314,16 +378,20 @@ def act(name, given, out, entries):
 def main(words):
     if words == ["--self-test"]:
         return self_test()
-    entries = None
-    if words[1:2] == ["--entries"] and words[2:3] and words[2].isdigit():
+    entries = second = None
+    if words[1:2] == ["--entries"] and words[2:3] and words[2].isdecimal():
         entries = int(words.pop(2))
         words.pop(1)
+    if words[:1] == ["split"] and words[1:2] and words[1].isdecimal():
+        second = int(words.pop(1))
     name, given, out, *more = words + [""] * 3
-    if name not in ("pack", "show", "plan", "draw") or any(more) or given.startswith("--"):
+    if name == "split":
+        more += [out, second is None]   # it writes no file, and cannot go without the second start
+    if name not in ("pack", "show", "plan", "draw", "split") or any(more) or given.startswith("--"):
         print(__doc__.strip())
         return 0 if words in (["--help"], ["-h"]) else 2
     try:
-        act(name, read_file(given), out, entries)
+        act(name, read_file(given), out, entries, second)
     except Unreadable as trouble:
         print("queue_text: %s%s" % ("" if given in ("", "-") else given + ": ", trouble), file=sys.stderr)
         return 1

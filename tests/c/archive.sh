@@ -5,7 +5,7 @@ fail() {
     exit 1
 }
 defined=$(nm -g --defined-only "$1" | awk 'NF == 3 { print $3 }' | sort -u)
-for entry in kippertarn_check_plan kippertarn_check_queue kippertarn_plan kippertarn_version; do
+for entry in kippertarn_check_plan kippertarn_check_queue kippertarn_plan kippertarn_split kippertarn_version; do
     echo "$defined" | grep -qx "$entry" || fail "no $entry"
 done
 needed=$(nm -u "$1" | awk 'NF == 2 { print $2 }' | sort -u | while read -r name; do
@@ -19,4 +19,4 @@ for name in $needed; do
 done
 writable=$(nm "$1" | awk 'NF == 3 && $2 ~ /^[bBdDcC]$/ { print $3 }')
 [ -z "$writable" ] || fail "keeps state in $writable"
-echo "archive: four entries, no state, needs:" ${needed:-nothing}
+echo "archive: five entries, no state, needs:" ${needed:-nothing}

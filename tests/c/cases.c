@@ -100,6 +100,8 @@ static void expect_refusal(const char *what, struct message m, int refusal)
     compare_checks(what, m.bytes, m.length, &as_queue, &as_plan);
     expect(what, (uint64_t)as_queue, (uint64_t)refusal);
     compare_plan(what, m.bytes, m.length, 12, 77);
+    compare_split(what, m.bytes, m.length, 0, 12, 77);
+    compare_split(what, m.bytes, m.length, 3, 0, 0);
 }
 
 #define WITH(at, ...) a_with_bytes(at, (const uint8_t[]){ __VA_ARGS__ }, sizeof(const uint8_t[]){ __VA_ARGS__ })

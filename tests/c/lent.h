@@ -1,15 +1,15 @@
 /* Calls of the part with everything it is lent watched, and compared with the reference.
  *
  * Each part lent stands between two pages that may not be touched, with bytes of chance around and in it. A copy of the
- * whole is written as 01 says the part must be, and compared afterwards: what 01 does not say to be written has to be
- * as it was. */
+ * whole is written as 01 and 02 say the part must be, and compared afterwards: what they do not say to be written has
+ * to be as it was. */
 #ifndef LENT_H
 #define LENT_H
 
 #define _DEFAULT_SOURCE /* for mmap */
 
 #include "kippertarn.h"
-#include "reference.h"
+#include "reference_split.h"
 
 #include <signal.h>
 #include <stdio.h>
@@ -18,8 +18,9 @@
 #include <unistd.h>
 
 static int failures;
-static unsigned long compared; /* answers */
-static unsigned long met[19];  /* of them, by R of the planning call */
+static unsigned long compared;      /* answers */
+static unsigned long met[19];       /* of them, by R of the planning call */
+static unsigned long met_split[21]; /* and of the splitting call */
 
 /* A fixed sequence, unless another seed is asked for. */
 static uint64_t chance_state = 20261115;
@@ -175,7 +176,7 @@ static inline int as_wanted(const struct lent *l)
 }
 
 static struct room message_room, table_room, plan_room;
-static uint64_t *wanted_table;
+static uint64_t *wanted_table, *planned_table;
 
 static inline void open_rooms(void)
 {
@@ -183,9 +184,49 @@ static inline void open_rooms(void)
     table_room = new_room(8 * (REF_MOST + 16));
     plan_room = new_room(8192);
     wanted_table = malloc(8 * REF_MOST);
-    if (!wanted_table)
+    planned_table = malloc(8 * REF_MOST);
+    if (!wanted_table || !planned_table)
         exit(1);
     tell_of_touches();
+}
+
+/* All that is lent to a planning or a splitting call. */
+struct call {
+    struct lent message, table, plan;
+};
+
+/* Lends a message, and a table and a plan buffer of these lengths; the copies are as the answer leaves them. */
+static inline struct call lend_call(const uint8_t *bytes, size_t length, size_t entries, size_t plan_length,
+                                    const struct ref_answer *wanted)
+{
+    struct call c;
+    c.message = lend(&message_room, "message", length);
+    c.table = lend(&table_room, "table", 8 * entries);
+    c.plan = lend(&plan_room, "plan buffer", plan_length);
+    memcpy(c.message.bytes, bytes, length);
+    memcpy(c.message.copy, bytes, length);
+    memcpy(c.table.copy, wanted_table, 8 * wanted->filled);
+    memcpy(c.plan.copy, wanted->plan, wanted->plan_bytes);
+    watch(bytes, length);
+    return c;
+}
+
+/* Says where the answer, or what was lent, is not as wanted. */
+static inline int answered_as_wanted(const char *what, const struct call *c, uint64_t answer,
+                                     const struct ref_answer *wanted)
+{
+    size_t plan_length = c->plan.length;
+    int good = as_wanted(&c->message) + as_wanted(&c->table) + as_wanted(&c->plan) == 3 && answer == wanted->answer;
+    compared++;
+    if (good)
+        return 1;
+    printf("FAILED %s: answer %llu, wanted %llu, with %zu entries and a plan buffer of %zu\n", what,
+           (unsigned long long)answer, (unsigned long long)wanted->answer, c->table.length / 8, plan_length);
+    print_bytes("queue", message_at_hand, length_at_hand);
+    print_bytes("wanted plan", wanted->plan, wanted->plan_bytes);
+    print_bytes("plan buffer", c->plan.bytes, plan_length < 77 ? plan_length : 77);
+    failures++;
+    return 0;
 }
 
 /* Plans a message by the part and by the reference, with a table and a plan buffer of these lengths; answers the
@@ -194,24 +235,31 @@ static inline struct ref_answer compare_plan(const char *what, const uint8_t *by
                                              size_t plan_length)
 {
     struct ref_answer wanted = ref_plan(bytes, length, wanted_table, entries, plan_length);
-    struct lent message = lend(&message_room, "message", length), table = lend(&table_room, "table", 8 * entries),
-                plan = lend(&plan_room, "plan buffer", plan_length);
-    uint64_t answer;
-    memcpy(message.bytes, bytes, length);
-    memcpy(message.copy, bytes, length);
-    memcpy(table.copy, wanted_table, 8 * wanted.filled);
-    memcpy(plan.copy, wanted.plan, wanted.plan_bytes);
-    watch(bytes, length);
-    answer = kippertarn_plan(address(&message), length, address(&table), entries, address(&plan), plan_length);
-    compared++;
+    struct call c = lend_call(bytes, length, entries, plan_length, &wanted);
+    uint64_t answer = kippertarn_plan(address(&c.message), length, address(&c.table), entries, address(&c.plan),
+                                      plan_length);
     met[wanted.answer % 256]++;
-    if (!as_wanted(&message) + !as_wanted(&table) + !as_wanted(&plan) || answer != wanted.answer) {
-        printf("FAILED %s: answer %llu, wanted %llu, with %zu entries and a plan buffer of %zu\n", what,
-               (unsigned long long)answer, (unsigned long long)wanted.answer, entries, plan_length);
-        print_bytes("queue", bytes, length);
-        print_bytes("wanted plan", wanted.plan, wanted.plan_bytes);
-        print_bytes("plan buffer", plan.bytes, plan_length < 77 ? plan_length : 77);
-        failures++;
+    answered_as_wanted(what, &c, answer, &wanted);
+    return wanted;
+}
+
+/* Splits a message in the same way; the table is held also to what the planning call leaves. */
+static inline struct ref_answer compare_split(const char *what, const uint8_t *bytes, size_t length,
+                                              uint32_t second_start, size_t entries, size_t plan_length)
+{
+    struct ref_answer wanted = ref_split(bytes, length, second_start, wanted_table, entries, plan_length);
+    struct call c = lend_call(bytes, length, entries, plan_length, &wanted);
+    uint64_t answer = kippertarn_split(address(&c.message), length, second_start, address(&c.table), entries,
+                                       address(&c.plan), plan_length);
+    uint8_t plan[KIPPERTARN_PLAN_BYTES];
+    met_split[wanted.answer % 256]++;
+    if (!answered_as_wanted(what, &c, answer, &wanted))
+        printf("  second start %lu\n", (unsigned long)second_start);
+    else if (wanted.answer % 256 == 0) {
+        answer = kippertarn_plan(bytes, length, planned_table, wanted.filled, plan, sizeof plan);
+        expect("planning where splitting is done", answer % 256, 0);
+        expect("the table that planning leaves",
+               (uint64_t)(memcmp(planned_table, c.table.bytes, 8 * wanted.filled) == 0), 1);
     }
     return wanted;
 }

@@ -12,8 +12,10 @@ static void around_limits(const char *what, const uint8_t *message, size_t lengt
     size_t needed = asked.answer % 256 == 16 ? (size_t)(asked.answer / 256) : 12;
     size_t tables[] = { 0, 1, needed / 2, needed - 1, needed, needed + 1, needed + 7, 2 * needed + 100 };
     for (size_t b = 0; b < sizeof buffers / sizeof *buffers; b++)
-        for (size_t t = 0; t < sizeof tables / sizeof *tables; t++)
+        for (size_t t = 0; t < sizeof tables / sizeof *tables; t++) {
             compare_plan(what, message, length, tables[t], buffers[b]);
+            compare_split(what, message, length, below(8) ? 0 : below(8), tables[t], buffers[b]);
+        }
 }
 
 /* 01's cases and chapter 5, whole, cut off and with a byte more, and random queues. */
@@ -33,6 +35,8 @@ static void messages_around_limits(unsigned long random_queues)
     for (unsigned long i = 0; i < random_queues && failures < 5; i++) {
         struct kippertarn_queue_record q;
         random_queue(&q, 60, i % 20 ? 300 : 5000);
+        if (i % 20 == 10)
+            permit_all(&q);
         around_limits("a random queue", message, kippertarn_write_queue_record(&q, message, sizeof message));
     }
 }
@@ -70,10 +74,17 @@ static int huge_lengths(void)
            kippertarn_plan(message, length, (uint64_t *)(void *)space, huge, plan, sizeof plan), 256 * 10);
     expect("a plan buffer of 2^32 bytes", kippertarn_plan(message, length, table, 12, space, huge), 256 * 10);
     expect("a plan of 2^32 bytes and 10", kippertarn_check_plan(space, huge + 10), 14);
+    message[5] = 2; /* A's shift: so that it may be split */
+    expect("a table of 2^32 entries for two cutters",
+           kippertarn_split(message, length, 0, (uint64_t *)(void *)space, huge, plan, sizeof plan), 256 * 10);
+    expect("a plan buffer of 2^32 bytes for two cutters",
+           kippertarn_split(message, length, 0, table, 12, space, huge), 256 * 10);
     memcpy(space, message, length);
     expect("a queue of 2^32 bytes and 23", kippertarn_check_queue(space, huge + length), 14);
     expect("a queue of 2^32 bytes and 23, planned", kippertarn_plan(space, huge + length, table, 12, plan, sizeof plan),
            14);
+    expect("a queue of 2^32 bytes and 23, split",
+           kippertarn_split(space, huge + length, 0, table, 12, plan, sizeof plan), 14);
     munmap(space, 8 * huge);
     return 1;
 }

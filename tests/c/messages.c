@@ -1,5 +1,5 @@
-/* Damaged messages through all three entries: every refusal of the readers just inside and just outside its bound,
- * several faults at once, bytes cut off, added and changed; compared with readers written from 01 alone. */
+/* Damaged messages through all entries that read one: every refusal of the readers just inside and just outside its
+ * bound, several faults at once, bytes cut off, added and changed; compared with readers written from 01 alone. */
 #include "queues.h"
 
 static unsigned long met_queue[19], met_plan[19], messages;
@@ -18,6 +18,21 @@ static void plan_damaged(const uint8_t *message, size_t length)
     compare_plan("a damaged queue", message, length, entries, buffers[below(6)]);
 }
 
+/* The same for a splitting call: 1 to 14, 19, 20, 15, 16. Only small queues are split. */
+static void split_damaged(const uint8_t *message, size_t length)
+{
+    struct kippertarn_queue_record q;
+    size_t entries = below(40);
+    uint32_t second_start = (uint32_t)chance();
+    if (ref_read_queue(message, length, &q) == 0) {
+        size_t needed = entries_of(&q);
+        second_start = random_second_start(&q);
+        if (needed <= 40)
+            entries = below(6) == 0 ? needed - 1 : below(6) == 0 ? 0 : needed;
+    }
+    compare_split("a damaged queue", message, length, second_start, entries, below(4) ? 77 : 76);
+}
+
 static void compare_message(const char *what, const uint8_t *message, size_t length)
 {
     int as_queue, as_plan;
@@ -32,6 +47,7 @@ static void compare_message(const char *what, const uint8_t *message, size_t len
     met_plan[as_plan]++;
     messages++;
     plan_damaged(message, length);
+    split_damaged(message, length);
 }
 
 /* Changes, cuts off or adds bytes. */
@@ -139,6 +155,8 @@ int main(int count, char **words)
         struct kippertarn_queue_record q;
         struct numbers queue, plan = plan_numbers();
         random_queue(&q, 60, rounds.done % 4 ? 200 : 1500); /* 60 jobs of 5 kinds need 305 at least */
+        if (below(4) == 0)
+            permit_all(&q);
         queue = queue_numbers(&q);
         compare_helper(&q, &queue);
         damaged("a damaged queue", queue, 0x53);
@@ -155,6 +173,8 @@ int main(int count, char **words)
     unsigned long least = rounds.done / 500;
     expect_met("of a queue", met_queue, 0, 14, least);
     expect_met("of planning", met, 0, 17, least);
+    expect_met("of splitting", met_split, 0, 16, least);
+    expect_met("of splitting", met_split, 19, 20, least);
     expect_met("of a plan", met_plan, 0, 4, least);
     expect_met("of a plan", met_plan, 6, 6, least);
     expect_met("of a plan", met_plan, 12, 12, least);

@@ -86,6 +86,29 @@ static inline void random_queue(struct kippertarn_queue_record *q, unsigned most
     choose_places(q);
 }
 
+/* Makes every order of a queue permitted, at the least or by more. */
+static inline void permit_all(struct kippertarn_queue_record *q)
+{
+    if (q->jobs == 0)
+        return;
+    q->shift = below(2) ? q->jobs - 1 : between(q->jobs - 1, 60);
+    for (unsigned j = 0; j < q->kinds; j++) {
+        q->first[j] = 1;
+        q->last[j] = below(2) ? q->jobs : between(q->jobs, 60);
+    }
+}
+
+/* Mostly one of the queue's kinds or cold; else over N, by little or by much. */
+static inline uint32_t random_second_start(const struct kippertarn_queue_record *q)
+{
+    switch (below(20)) {
+    case 0: return q->kinds + 1;
+    case 1: return between(0, q->kinds) + ((uint32_t)1 << between(3, 31));
+    case 2: return (uint32_t)chance();
+    default: return between(0, q->kinds);
+    }
+}
+
 /* A queue message as the list of its numbers, each with the range it is judged by. */
 struct numbers {
     size_t count;

@@ -246,19 +246,18 @@ static inline void ref_write_plan(struct ref_work *w, struct ref_answer *a)
     a->plan_bytes = to.at;
 }
 
-/* Plans as 01 says; `table` has room for REF_MOST entries whatever is lent. */
-static inline struct ref_answer ref_plan(const uint8_t *message, size_t length, uint64_t *table, size_t entries,
-                                         size_t plan_length)
+/* Plans an accepted queue as 01 says; `table` has room for REF_MOST entries whatever is lent. */
+static inline struct ref_answer ref_plan_record(const struct kippertarn_queue_record *q, uint64_t *table,
+                                                size_t entries, size_t plan_length)
 {
     static uint8_t known[REF_MOST], fills[REF_MOST];
     struct ref_answer a = { 0 };
-    struct ref_work w = { .p = 1, .value = table, .known = known, .fills = fills };
+    struct ref_work w = { .q = *q, .p = 1, .value = table, .known = known, .fills = fills };
     unsigned k[5] = { 0 }, next;
-    a.answer = (uint64_t)ref_read_queue(message, length, &w.q);
-    if (a.answer == 0 && plan_length < 77)
+    if (plan_length < 77) {
         a.answer = 15;
-    if (a.answer)
         return a;
+    }
     for (unsigned i = 1; i <= w.q.jobs; i++) {
         unsigned j = w.q.kind[i - 1];
         w.job[j - 1][w.all[j - 1]++] = i;
@@ -282,6 +281,15 @@ static inline struct ref_answer ref_plan(const uint8_t *message, size_t length, 
     ref_write_plan(&w, &a);
     a.answer = 256 * (uint64_t)a.plan_bytes;
     return a;
+}
+
+/* Plans a message. */
+static inline struct ref_answer ref_plan(const uint8_t *message, size_t length, uint64_t *table, size_t entries,
+                                         size_t plan_length)
+{
+    struct kippertarn_queue_record q = { 0 };
+    struct ref_answer a = { .answer = (uint64_t)ref_read_queue(message, length, &q) };
+    return a.answer ? a : ref_plan_record(&q, table, entries, plan_length);
 }
 
 #endif

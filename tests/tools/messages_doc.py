@@ -1,10 +1,10 @@
 #!/usr/bin/env python3
 """Holds docs/MESSAGES.md to include/kippertarn.h, so that neither gains a refusal or a limit without the other.
 
-Compared are the refusals by number and name, and which check gives each, also with the definitions of crates/refusal, crates/queue and
-crates/plan; the limits; the worked bytes and entries, with examples/case-a.queue and with what tests/c/cases.c holds the archive to; the
-sentences of examples/messages.h, one for each refusal; and the version, which header, archive and CHANGELOG.md state. Run at the top of the
-repository.
+Compared are the refusals by number and name, and which call gives each, also with the definitions of crates/refusal, crates/queue and
+crates/plan; the limits; the worked bytes and entries, with examples/case-a.queue and with what tests/c/cases.c and tests/c/splits.c hold the
+archive to; the sentences of examples/messages.h, one for each refusal; and the version, which header, archive and CHANGELOG.md state. Run at the
+top of the repository.
 """
 import re
 import sys
@@ -17,18 +17,21 @@ failures, compared = [], 0
 LIMITS = {"KINDS": "KINDS_MOST", "SHIFT": "SHIFT_MOST", "GAP": "GAP_MOST", "PUPILS": "PUPILS_MOST", "PLACES": "PLACE_MOST", "JOBS": "JOBS_MOST",
           "BUFFER": "PLAN_BYTES"}
 
+# What planning and splitting give beside the refusals of a queue message.
+BEHIND = {"planning": {"BUFFER", "TABLE", "NO_ORDER"}, "splitting": {"UNCOVERED", "SECOND_START", "BUFFER", "TABLE"}}
+
 
 def read(path):
     return Path(path).read_text(encoding="utf-8")
 
 
 def same(what, one, in_one, other, in_other):
-    """Two places, each with its name, hold the same by key: each difference is a failure of its own."""
+    """Two places, each with its name, hold the same by key, and something: each difference is a failure of its own."""
     global compared
     for key in sorted(set(in_one) | set(in_other), key=str):
         compared += 1
         first, second = in_one.get(key, "missing"), in_other.get(key, "missing")
-        if first != second:
+        if first != second or first == "":
             failures.append("%s %s: %s in %s, %s in %s" % (what, key, first, one, second, other))
 
 
@@ -104,8 +107,9 @@ def compare_refusals(header, page):
     for column, crate, given in ((3, "queue", by_queue), (4, "plan", by_plan)):
         same("refusal by check_" + crate, "docs/MESSAGES.md", {n: r[column] == "yes" for n, r in told.items()},
              "crates/%s/specs/Refusals.antt" % crate, {n: name in given for n, name in proved.items()})
-    same("refusal by planning", "docs/MESSAGES.md", {n: r[5] == "yes" for n, r in told.items() if r[3] == "yes"},
-         "crates/queue/specs/Refusals.antt", {n: True for n, name in proved.items() if name in by_queue})
+    for column, call in ((5, "planning"), (6, "splitting")):
+        same("refusal by " + call, "docs/MESSAGES.md", {n: r[column] == "yes" for n, r in told.items()},
+             "crates/queue/specs/Refusals.antt and the call", {n: name in by_queue | BEHIND[call] for n, name in proved.items()})
     named = others | {names[0]}
     same("name", "the header", dict.fromkeys(named, True), "docs/MESSAGES.md", {name: True for name in named if "`KIPPERTARN_%s`" % name in page})
     compare_words(header, names, {r[1].replace("KIPPERTARN_", ""): r[2] for r in told.values()})
@@ -126,13 +130,15 @@ def compare_words(header, names, conditions):
 
 
 def compare_worked(page):
-    cases = read("tests/c/cases.c")
-    queue, plan = section(page, "### A queue, byte by byte"), section(page, "### A plan, byte by byte")
+    cases, splits = read("tests/c/cases.c"), read("tests/c/splits.c")
+    queue, plan, split = (section(page, "### A %s, byte by byte" % message) for message in ("queue", "plan", "split plan"))
     example = Path("examples/case-a.queue").read_bytes()
     same("the bytes of", "docs/MESSAGES.md", {"queue A": worked_bytes(queue), "plan A": worked_bytes(plan)},
          "examples/case-a.queue and tests/c/cases.c", {"queue A": example.hex(" ").upper(), "plan A": c_bytes(cases, "plan_a")})
     same("the bytes of", "docs/MESSAGES.md", {"plan B": "".join(re.findall(r"`(51 50 [0-9A-F ]+)`", plan))},
          "tests/c/cases.c", {"plan B": c_bytes(cases, "plan_b")})
+    same("the bytes of", "docs/MESSAGES.md", {"split A": worked_bytes(split), "split B": "".join(re.findall(r"`(51 32 [0-9A-F ]+)`", split))},
+         "tests/c/splits.c", {"split A": c_bytes(splits, "split_a"), "split B": c_bytes(splits, "split_b")})
     told = [r for r in rows(section(page, "## The table")) if r[0].isdigit()]
     same("entry", "docs/MESSAGES.md", {i: "NONE" if r[4].startswith("none") else r[4] for i, r in enumerate(told)},
          "tests/c/cases.c", dict(enumerate(c_array(cases, "table_a"))))

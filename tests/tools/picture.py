@@ -1,5 +1,5 @@
-"""The text tool's plans and pictures: those of the README; many more, read back from what was printed and drawn and held
-to the finishes that the proved program plan_queue prints; mistakes and refusals as a user meets them."""
+"""The text tool's plans, splits and pictures: those of the README; many more, read back from what was printed and drawn
+and held to the finishes that the proved program plan_queue prints; mistakes and refusals as a user meets them."""
 import os
 import pathlib
 import pty
@@ -21,6 +21,21 @@ import queue_text  # noqa: E402
 CHAPTER5, CASE_A = ROOT / "examples" / "chapter5-goal1.queue", ROOT / "examples" / "case-a.queue"
 A_DRAWN = textwrap.dedent((ROOT / "README.md").read_text().split("plan examples/case-a.queue\n")[1].split("\n`draw`")[0])
 A_TEXT = "gaps 10 10\ngaps 20 50\ngaps 40 30\npupils 3 1\njobs 1 2 1\n"
+A_SPLIT = """\
+jobs 3, kinds 2, goal 1, shift 4, start 0, second start 0
+
+First cutter: last finish 10 s
+place  job  kind   finish
+    1    2     2       10
+
+Second cutter: last finish 30 s
+place  job  kind   finish
+    1    1     1       10
+    2    3     1       30
+
+One cutter alone: last finish 70 s
+Two cutters: last finish 30 s, saved 40 s (57.1 %)
+"""
 checks = 0
 
 
@@ -52,13 +67,17 @@ def strip(lines, name, room):
     return "".join(line[8:].ljust(room) for line in lines if re.fullmatch(" *%s( [-1-5#=+~|]*)?" % name, line))
 
 
+def places(lines):
+    """Place, job, kind and finish, of the lines that have them."""
+    return [[int(word) for word in line.split()] for line in lines if re.fullmatch(r" *\d+ +\d+ +\d+ +\d+", line)]
+
+
 def check_text(queue, plan, finishes, columns):
     """The bars of the picture in the terminal begin where the finishes say, and show the kinds that were cut."""
     lines = picture.table(queue, plan, columns) + picture.as_text(queue, plan, columns)
     said = "\n".join(lines)
     check(max(map(len, lines)) <= columns, "columns", columns, said)
-    rows = [[int(word) for word in line.split()] for line in lines if re.fullmatch(r" *\d+ +\d+ +\d+ +\d+", line)]
-    check(rows == finishes, "table", rows, finishes)
+    check(places(lines) == finishes, "table", said, finishes)
     before, by_hand = queue.start, [[0, 0]]
     for kind in queue.jobs:
         by_hand.append([kind, by_hand[-1][1] + queue.gaps[before][kind - 1]])
@@ -129,6 +148,44 @@ def check_pictures():
     check("total waiting 0 pupil-seconds, nothing saved" in said, said)
 
 
+def check_split(message, second):
+    """Each cutter's places are those that the proved program prints for its jobs alone; both are told from one table."""
+    queue, split = queue_text.split_of(message, None, second)
+    wanted, costs = [], []
+    for start, order in ((queue.start, split.first), (second, split.second)):
+        jobs = sorted(order)
+        text = re.sub("(?m)^start .*", "start %d" % start, queue_text.show(message))
+        text = re.sub("(?m)^jobs.*", "jobs " + " ".join(str(queue.jobs[job - 1]) for job in jobs), text)
+        rows = [[place, jobs[job - 1], kind, end] for place, job, kind, end in proved(queue_text.pack(text)[0])]
+        check([job for _, job, _, _ in rows] == order, "a cutter's order", text, order)
+        costs.append(sum(end * (queue.pupils[kind - 1] if queue.goal == 2 else place == len(rows)) for place, _, kind, end in rows))
+        wanted += rows
+    check(split.cost == (max(costs) if queue.goal == 1 else sum(costs)), "the cost", split, costs)
+    alone = queue_text.plan_of(message, None)[1].cost
+    for columns in (20, 25, 80):
+        lines = picture.split_table(queue, second, split, alone, columns)
+        check(places(lines) == wanted and max(map(len, lines)) <= columns, "split", "\n".join(lines), wanted)
+
+
+def check_splits():
+    text = A_TEXT.encode() + b"shift 4"
+    check(tool(["split", 0], text)[1] == A_SPLIT, "A is split otherwise", tool(["split", 0], text)[1])
+    check(tool(["show"], queue_text.ask(queue_text.pack(text.decode())[0], None, 0)[2])[1] == "split goal 1\ncost 30\nfirst 2\nsecond 1 3\n",
+          "A's split plan as text")
+    said = tool(["split", 2, ROOT / "examples" / "case-g.queue"])[1]
+    check("First cutter: no jobs\n\nSecond cutter: no jobs\n" in said and "last finish 0 s, nothing saved" in said, said)
+    chance = random.Random(2)
+    for message in [queue_text.pack(random_text(chance))[0] for _ in range(100)]:
+        if queue_text.ask(message, 8192)[0] == 0:  # as plan_queue can
+            check_split(message, chance.randint(0, len(queue_text.read_queue(message).pupils)))
+    for text, second, *expected in UNSPLIT:
+        status, said, errors = tool(["split", second], text.encode())
+        check(status == 1 and not said and errors.startswith("queue_text: " + expected[0]) and errors.count("\n") == 1, text, errors)
+        check(all(more in errors for more in expected), text, expected, errors)
+    for words in (["split"], ["split", CASE_A], ["split", "-1", CASE_A], ["split", "x"], ["split", 0, CASE_A, "drawn.svg"]):
+        check(tool(words)[0] == 2, words)
+
+
 def check_largest():
     """60 jobs of 5 kinds: every job has a bar, and a table that is too short is refused with the number it needs."""
     text = "".join("gaps %d %d %d %d %d\n" % tuple(30 + 70 * (i != j) for j in range(1, 6)) for i in range(6))
@@ -140,6 +197,8 @@ def check_largest():
     status, said, errors = tool(["plan", "--entries", 8192], text.encode())
     check(status == 1 and not said and "refused 16" in errors and "1856465 entries" in errors, errors)
     check(tool(["plan", "--entries", 1856465], text.encode())[0] == 0, "a table of just the entries that are needed")
+    status, said, errors = tool(["split", "--entries", 1856464, 0], text.encode())
+    check(status == 1 and not said and "refused 16" in errors and "1856465 entries" in errors, errors)
 
 
 def check_colours():
@@ -199,6 +258,17 @@ MISTAKES = [
 ]
 
 
+UNSPLIT = [
+    (A_TEXT + "shift 1", 0, "line 6: refused 19: ", "The shift is 1, and 3 jobs need 2."),
+    (A_TEXT + "places 1-2 1-3", 0, "line 6: refused 19: ", "The places of kind 1 are 1-2, and 3 jobs need 1-3."),
+    (A_TEXT + "shift 0\nplaces 1-60 2-60", 3, "line 6: refused 19: ", "The shift is 0", "The places of kind 2 are 2-60"),
+    (A_TEXT, 3, "refused 20: ", "The second start is 3, and the kinds are 2."),
+    (A_TEXT, 2**32, "refused 20: ", "The second start is 4294967296"),
+    (A_TEXT.replace("1 2 1", "1 7 1"), 3, "line 5: refused 13: "),
+    ("Q2", 0, "a split plan; a queue "),
+]
+
+
 def check_mistakes():
     """One line, no output, status 1, and no file: neither the one that was asked for nor a part of it."""
     with tempfile.TemporaryDirectory() as room:
@@ -216,11 +286,12 @@ def check_mistakes():
         check(tool(["plan", CASE_A, svg])[0] == 0 and svg.read_text() == tool(["draw", CASE_A])[1], "the picture beside the plan")
         check(os.listdir(room) == ["drawn.svg"], os.listdir(room))
     said = queue_text.sentences()
-    check(sorted(said) == list(range(19)) and all(said.values()), "a sentence for each refusal", said)
+    check(sorted(said) == list(range(21)) and all(said.values()), "a sentence for each refusal", said)
 
 
 check_pictures()
 check_largest()
+check_splits()
 check_colours()
 check_mistakes()
 print("picture: %d checks agree" % checks)

@@ -1,21 +1,20 @@
 -- Demand 3 and the planning contract, from what planning answers and leaves.
 -- Assumes nothing.
-use Prim.Native.Nat.{ℕ, _≤_}
+use Prim.Native.Nat.{ℕ, _*_, _≤_}
 use mathlib.Core.List.{List}
+use mathlib.Core.Logic.{_≢_}
 use mathlib.Core.Option.{Option, none, some}
-use mathlib.Core.Path.{_≡_, refl, sym, ap, _∙_}
+use mathlib.Core.Path.{_≡_, refl, ap, _∙_}
 use native.Mathlib.Omega.{arith}
-use lib.ListN.{length, getD}
-use lib.Seq.{length-sets}
+use lib.ListN.{length, getD, take}
 use borrow.Author.Tests.{lt-ltb, le-ltb}
-use Rattle.refusal.specs.declared.Verdict.the-variants.{Accepted}
 use Rattle.refusal.specs.declared.Answer.{Answer}
 use Rattle.refusal.specs.Answers.{answerNumber}
-use Rattle.fields.proofs.Writers.{stands, behind}
 use Rattle.queue.specs.declared.Queue.{Queue}
 use Rattle.queue.specs.Record.{Valid}
 use Rattle.queue.specs.Reading.{readQueue}
 use Rattle.queue_laws.proofs.Theorems.{accepted-valid}
+use Rattle.plan.specs.Reading.{readPlan}
 use Rattle.plan.specs.Writing.{message}
 use Rattle.plan_laws.proofs.Theorems.{message-length}
 use Rattle.sequencing.specs.Problem.{Problem}
@@ -23,15 +22,16 @@ use Rattle.sequencing.specs.States.{IsPair}
 use Rattle.sequencing.specs.Recursion.{value, planCost}
 use Rattle.sequencing.specs.Entries.{entries, number, stored, FilledTable}
 use Rattle.sequencing.proofs.Entries.{number-in, entry-is}
-use Rattle.sequencing.proofs.Options.{none-some}
 use Rattle.problem.specs.OfQueue.{problem}
 use Rattle.problem.proofs.Queues.{none-permitted}
 use Rattle.best_order.specs.Endings.{solved, bestPlan, answerOf, bufferOf, tableOf, LeavesTable}
-use Rattle.best_order.specs.BestOrder.{Best, BestOrder}
+use Rattle.best_order.specs.BestOrder.{BestPlan, BestOrder}
 use Rattle.best_order.specs.Planning.{endingOn, Planning}
-use Rattle.best_order.proofs.Endings.{reached}
+use Rattle.best_order.proofs.Checks.{through}
+use Rattle.best_order.proofs.Endings.{solved-by-cost, reached}
 use Rattle.best_order.proofs.Plans.{valid-plan, read-again, best-plan}
-use Rattle.best_order.proofs.Changes.{changes}
+use Rattle.best_order.proofs.Calls.{OfCall, cost-fills, cost-17, changes, plan-stands, bytes-behind, none-written}
+use Rattle.best_order.proofs.Answers.{planning-of-call}
 
 -- ---- the table
 
@@ -44,45 +44,38 @@ module _ (P : Problem) (table table′ : List ℕ) (filled : FilledTable P table
 
 -- ---- the written plan
 
-module _ (q : Queue) (v : Valid q) (table buffer table′ buffer′ : List ℕ) where
-  abbrev P : Problem
-  P = problem q
+module _ (q : Queue) (v : Valid q) (buffer buffer′ : List ℕ) (h : 77 ≤ length buffer) where
+  abbrev answer : Option ℕ → ℕ
+  answer r = answerNumber (answerOf (solved q r))
 
-  best : (r : Option ℕ) → planCost P ≡ r → 77 ≤ length buffer → LeavesTable (tableOf (solved q r)) table table′ → buffer′ ≡ bufferOf (solved q r) buffer
-      → Best P table buffer table′ buffer′ (answerNumber (answerOf (solved q r)))
-  best none e h filled same = record {
-    none-permitted = ((λ _. none-permitted q v .0 e), (λ _. refl));
-    otherwise = λ other. absurd (other refl);
-    behind = λ n a. absurd (omega arith);
-    unwritten = λ _. same;
-    entry-of = entry-of P table table′ filled;
-    past = past P table table′ filled;
-  }
-  best (some c) e h filled holds =
+  otherwise : (r : Option ℕ) → planCost (problem q) ≡ r → buffer′ ≡ bufferOf (solved q r) buffer → answer r ≢ 17
+      → (n : ℕ) × (answer r ≡ 256 * n) × (n ≤ length buffer′) × BestPlan (problem q) (readPlan (take n buffer′))
+  otherwise none e holds other = absurd (other refl)
+  otherwise (some c) e holds other =
       let s : List ℕ = message (bestPlan q c) in
-      let short : length s ≤ length buffer = omega (arith, message-length (bestPlan q c) (valid-plan q v c e)) in
-      record {
-        none-permitted = ((λ a. absurd (omega arith)), (λ never. absurd (none-some c (sym (none-permitted q v .1 never) ∙ e))));
-        otherwise = λ _. (
-          length s,
-          refl,
-          rw (holds, length-sets) short,
-          rw (holds, stands s buffer short, read-again q v c e) (best-plan q v c e),
-        );
-        behind = λ n a. let e : n ≡ length s = omega arith in rw (e, holds) (behind s buffer short);
-        unwritten = λ a. absurd (omega arith);
-        entry-of = entry-of P table table′ filled;
-        past = past P table table′ filled;
-      }
+      let (fits, stands) = plan-stands buffer buffer′ s (omega (arith, message-length (bestPlan q c) (valid-plan q v c e))) holds in
+      (length s, refl, fits, rw (stands, read-again q v c e) (best-plan q v c e))
 
 -- demand 3
 best-order : (s table buffer table′ buffer′ : List ℕ)
     → LeavesTable (tableOf (endingOn s table buffer)) table table′ → buffer′ ≡ bufferOf (endingOn s table buffer) buffer
     → BestOrder s table buffer table′ buffer′ (answerNumber (answerOf (endingOn s table buffer)))
-best-order s table buffer table′ buffer′ filled holds a h k =
+best-order s table buffer table′ buffer′ leaves holds a h k =
     let q : Queue = readQueue s .queue in
+    let r : Option ℕ = planCost (problem q) in
+    let v : Valid q = accepted-valid s a in
     let e = reached s (length table) (length buffer) a k h in
-    rw e (best q (accepted-valid s a) table buffer table′ buffer′ (planCost (problem q)) refl k (rw e at filled) (rw e at holds))
+    let filled : FilledTable (problem q) table table′ = rw (e, cost-fills (solved-by-cost q) r) at leaves in
+    let holds′ : buffer′ ≡ bufferOf (solved q r) buffer = rw e at holds in
+    let of : OfCall s (solved q r) = rw e at (planning-of-call s (length table) (length buffer)) in
+    rw e (record {
+      none-permitted = through (cost-17 (solved-by-cost q) r) (none-permitted q v);
+      otherwise = otherwise q v buffer buffer′ k r refl holds′;
+      behind = bytes-behind buffer buffer′ s (solved q r) of k holds′;
+      unwritten = none-written buffer buffer′ (solved q r) holds′;
+      entry-of = entry-of (problem q) table table′ filled;
+      past = past (problem q) table table′ filled;
+    })
 
 -- the planning contract
 pub planning : {s table buffer table′ buffer′ : List ℕ} {answer : Answer}
@@ -92,7 +85,7 @@ planning {s} {table} {buffer} {table′} {buffer′} e filled holds = record {
   answer-is = e;
   leaves-table = filled;
   leaves-buffer = holds;
-  changes = rw e (changes s table buffer table′ buffer′ filled holds);
+  changes = rw e (changes s table buffer table′ buffer′ (endingOn s table buffer) (planning-of-call s (length table) (length buffer)) filled holds);
   best-order = rw e (best-order s table buffer table′ buffer′ filled holds);
 }
 

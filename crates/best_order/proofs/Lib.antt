@@ -1,7 +1,9 @@
 pub mod Orders
 pub mod Plans
 pub mod Endings
+pub mod Calls
+pub mod Checks
 pub mod Answers
 pub mod Refusals
-pub mod Changes
 pub mod Best
+pub mod Ends

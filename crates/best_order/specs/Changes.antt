@@ -1,4 +1,4 @@
--- What a refusal of planning changes of what is lent, by the answer alone.
+-- What a refusal of a call that plans changes of what is lent, by the answer alone.
 use Prim.Native.Nat.{ℕ}
 use mathlib.Core.List.{List}
 use mathlib.Core.Logic.{_≢_}

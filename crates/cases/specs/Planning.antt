@@ -18,7 +18,7 @@ use Rattle.sequencing.specs.Entries.{size, digits, entryKind, entryLeft, filled
 use Rattle.sequencing.specs.Counts.{feasibleStates}
 use Rattle.problem.specs.PlaceRule.{allowed}
 use Rattle.problem.specs.OfQueue.{problem}
-use Rattle.best_order.specs.Endings.{Ending, endingOf, ending, bestPlan, answerOf, bufferOf, TableEnding, untouched, filledFor, tableOf}
+use Rattle.best_order.specs.Endings.{Ending, roomVerdict, endingOf, ending, bestPlan, answerOf, bufferOf, TableEnding, untouched, filledFor, tableOf}
 
 -- A, but for its goal, shift, a_1 and a_2
 abbrev likeA : (goal shift a₁ a₂ : ℕ) → List ℕ
@@ -84,7 +84,7 @@ pub record Planning : Type 0 where
   pub H-plan : planned H 8 9 ≡ (256 * 9, 0x51 ∷ 0x50 ∷ 0x01 ∷ 0x01 ∷ 0x00 ∷ 0x04 ∷ 0x02 ∷ 0x02 ∷ 0x01 ∷ [])
 
 pub planning : Planning
-unfolding readQueue queue head settings tables jobs placed opens groupsAt groups encode tabulate flatMap message ending endingOf bestPlan planCost planKinds planOrder feasibleStates value toGo choice walk byHandIn least argLeast W allLeft jobsOf sum weigh filter from size digits entryKind entryLeft allowed times
+unfolding readQueue queue head settings tables jobs placed opens groupsAt groups encode tabulate flatMap message ending endingOf roomVerdict bestPlan planCost planKinds planOrder feasibleStates value toGo choice walk byHandIn least argLeast W allLeft jobsOf sum weigh filter from size digits entryKind entryLeft allowed times
 planning = record {
   A-plan = refl;
   A-eleven = refl;

@@ -1,4 +1,5 @@
 pub mod RoundTrip
+pub mod Prefixes
 pub mod Judged
 pub mod Local
 pub mod Orders

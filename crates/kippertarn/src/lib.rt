@@ -1,4 +1,4 @@
-// The C entries. The checks and planning answer R + 256 * V: R is 0 or the refusal, V the bytes of the written plan, the needed entries for 16, else 0.
+// The C entries. All but the version answer R + 256 * V: R is 0 or the refusal, V the bytes of the written plan, the needed entries for 16, else 0.
 use refusal::Answer;
 use refusal::Reason;
 use refusal::Verdict;
@@ -10,6 +10,8 @@ ghost use Rattle.queue.specs.Reading.{readQueue};
 ghost use Rattle.plan.specs.Reading.{readPlan};
 ghost use Rattle.best_order.specs.Endings.{answerOf};
 ghost use Rattle.best_order.specs.Planning.{endingOn, Planning};
+ghost use Rattle.best_split.specs.Endings.{splitEndingOn};
+ghost use Rattle.best_split.specs.Splitting.{Splitting};
 ghost use Rattle.kippertarn.specs.Version.{version};
 
 // The entries that the reason for 16 holds, else 0.
@@ -82,10 +84,25 @@ pub extern "C" fn kippertarn_plan(message: &[u8], table: &mut [u64], plan: &mut 
     answer_number(answer)
 }
 
+// Splits a queue message over two cutters: V is the bytes of the written split plan, and for 16 the needed entries.
+#[no_mangle]
+pub extern "C" fn kippertarn_split(
+    message: &[u8],
+    second_start: u32,
+    table: &mut [u64],
+    plan: &mut [u8],
+) -> u64
+    ensures { λ r. ⌜ r ≡ answerNumber (answerOf (splitEndingOn (now (message .entry)) «second_start» (now (table .entry)) (now (plan .entry)))) ⌝ }
+    ensures { λ _. ⌜ Splitting (now (message .entry)) «second_start» (now (table .entry)) (now (plan .entry)) (now (table .exit)) (now (plan .exit)) (answerOf (splitEndingOn (now (message .entry)) «second_start» (now (table .entry)) (now (plan .entry)))) ⌝ }
+{
+    let answer = splitter::split(message, second_start, table, plan);
+    answer_number(answer)
+}
+
 // The version of the archive, to be matched with the header's.
 #[no_mangle]
 pub extern "C" fn kippertarn_version() -> u64
     ensures { λ r. ⌜ r ≡ version ⌝ }
 {
-    1002000
+    1003000
 }

@@ -2,7 +2,7 @@
 -- Assumes nothing.
 use Prim.Native.Nat.{ℕ, _-_, _^_, _≤_, _<_}
 use mathlib.Core.List.{List}
-use mathlib.Core.Option.{Option, none, some}
+use mathlib.Core.Option.{none, some}
 use mathlib.Core.Path.{_≡_, refl, sym, ap, _∙_}
 use native.Mathlib.Omega.{arith}
 use lib.ListN.{length}
@@ -27,6 +27,7 @@ use Rattle.sequencing.specs.Recursion.{choice, planCost, planOrder}
 use Rattle.sequencing.specs.Following.{byHandInUpto}
 use Rattle.sequencing.specs.Counts.{feasibleStates}
 use Rattle.sequencing.specs.Entries.{kAt, stored, FilledTable}
+use Rattle.sequencing.proofs.Options.{stored-none, stored-some}
 use Rattle.sequencing.proofs.Recursion.{walk-by}
 use Rattle.problem.specs.OfQueue.{problem}
 use Rattle.problem.proofs.Queues.{cost-fits}
@@ -36,7 +37,7 @@ use Rattle.solver.specs.Following.{Followed}
 use Rattle.solver.proofs.Start.{all-jobs, last-is, order-is}
 use Rattle.best_order.specs.Endings.{solved, bestPlan}
 use Rattle.best_order.proofs.Plans.{valid-plan}
-use Rattle.planner.proofs.Ends.{Ends}
+use Rattle.best_order.proofs.Ends.{Ends}
 
 -- ---- the order followed from the start
 
@@ -76,11 +77,7 @@ module _ {q : Queue} {table table′ : List ℕ} {cost states : ℕ} (s : Solved
   P = problem q
 
   none-found : cost ≡ 2 ^ 64 - 1 → planCost P ≡ none
-  none-found e = go (planCost P) refl
-    where
-      go : (r : Option ℕ) → planCost P ≡ r → planCost P ≡ none
-      go none h = h
-      go (some c) h = absurd (omega (arith, cost-fits q (s .valid) c h .2, s .cost-is ∙ ap stored h))
+  none-found e = stored-none (planCost P) (λ c h. omega (arith, cost-fits q (s .valid) c h .2)) (sym (s .cost-is) ∙ e)
 
   pub ends-unplannable : {buffer : List ℕ} → cost ≡ 2 ^ 64 - 1 → Ends (solved q (planCost P)) (Refused NoOrder) table buffer table′ buffer
   ends-unplannable e = rw (none-found e) (refl, (s .fills, refl))
@@ -91,11 +88,7 @@ module _ {q : Queue} {table table′ : List ℕ} {cost states : ℕ} (s : Solved
     some-order h = other (s .cost-is ∙ ap stored h)
 
     some-found : planCost P ≡ some cost
-    some-found = go (planCost P) refl
-      where
-        go : (r : Option ℕ) → planCost P ≡ r → planCost P ≡ some cost
-        go none h = absurd (some-order h)
-        go (some c) h = h ∙ ap some (sym (s .cost-is ∙ ap stored h))
+    some-found = rw (s .cost-is) (stored-some (planCost P) (λ e. other (s .cost-is ∙ e)))
 
     module _ (buffer : List ℕ) (room : 77 ≤ length buffer) {order : List ℕ} (order-is : order ≡ filled 60 (planOrder P)) where
       is-best : made q cost states order ≡ bestPlan q cost

@@ -14,7 +14,7 @@ ghost use Rattle.sequencing.specs.Recursion.{planCost};
 ghost use Rattle.sequencing.specs.Entries.{entries};
 ghost use Rattle.problem.specs.OfQueue.{problem};
 ghost use Rattle.layout.specs.Prepared.{Prepared};
-ghost use Rattle.best_order.specs.Endings.{solved, endingOf, answerOf, bufferOf, tableOf, LeavesTable};
+ghost use Rattle.best_order.specs.Endings.{roomVerdict, solved, endingOf, answerOf, bufferOf, tableOf, LeavesTable};
 ghost use Rattle.best_order.specs.Planning.{Planning};
 
 // 17 with the table filled, or the plan written, where there is room for both.
@@ -56,6 +56,19 @@ fn make_plan(queue: Queue, layout: Layout, table: &mut [u64], buffer: &mut [u8])
     }
 }
 
+// What is lent, judged: 15, then 16, which carries the entries that are needed.
+pub fn judge_room(needed: u64, entries: usize, room: usize) -> Verdict
+    ensures { λ r. ⌜ r ≡ roomVerdict needed entries room ⌝ }
+{
+    if room < 77 {
+        return Verdict::Refused(Reason::Buffer);
+    }
+    if (entries as u64) < needed {
+        return Verdict::Refused(Reason::Table(needed));
+    }
+    Verdict::Accepted
+}
+
 // Plans a queue that was read: 15, 16, 17, or the plan.
 fn plan_record(queue: Queue, table: &mut [u64], buffer: &mut [u8]) -> Answer
     requires { ⌜ Valid queue ⌝ }
@@ -63,15 +76,13 @@ fn plan_record(queue: Queue, table: &mut [u64], buffer: &mut [u8]) -> Answer
     ensures { λ _. ⌜ LeavesTable (tableOf (endingOf queue (length (now (table .entry))) (length (now (buffer .entry))))) (now (table .entry)) (now (table .exit)) ⌝ }
     ensures { λ _. ⌜ now (buffer .exit) ≡ bufferOf (endingOf queue (length (now (table .entry))) (length (now (buffer .entry)))) (now (buffer .entry)) ⌝ }
 {
-    if buffer.len() < 77 {
-        return Answer::Refused(Reason::Buffer);
-    }
     let layout = layout::prepare(queue);
     let needed = layout::needed_entries(layout.size);
-    if (table.len() as u64) < needed {
-        return Answer::Refused(Reason::Table(needed));
+    let verdict = judge_room(needed, table.len(), buffer.len());
+    match verdict {
+        Verdict::Refused(why) => Answer::Refused(why),
+        Verdict::Accepted => make_plan(queue, layout, table, buffer),
     }
-    make_plan(queue, layout, table, buffer)
 }
 
 // Plans a queue message. Refusals 1 to 16 change nothing, 17 fills the table only; bytes past the plan keep what they had.

@@ -5,7 +5,7 @@ use mathlib.Core.Logic.{_⊎_, inl, inr, ⊎-elim, _≢_}
 use mathlib.Core.Path.{_≡_, refl, ap}
 use native.Mathlib.Omega.{arith}
 use Rattle.refusal.specs.declared.Reason.{Reason}
-use Rattle.refusal.specs.declared.Reason.the-variants.{Opening, Ends, Groups, Edition, Kinds, Goal, Shift, Start, Gap, Pupils, Places, Jobs, JobKind, LeftOver, Buffer, Table, NoOrder, Job}
+use Rattle.refusal.specs.declared.Reason.the-variants.{Opening, Ends, Groups, Edition, Kinds, Goal, Shift, Start, Gap, Pupils, Places, Jobs, JobKind, LeftOver, Buffer, Table, NoOrder, Job, Uncovered, SecondStart}
 use Rattle.refusal.specs.Reasons.{reasonNumber, needed, reasonGroup, numberGroup}
 use Rattle.refusal.specs.Answers.{refusalNumber, refusalOf}
 
@@ -31,6 +31,8 @@ known Buffer = (omega arith, refl, inl refl)
 known (Table n) = (omega arith, refl, inr (n, refl))
 known NoOrder = (omega arith, refl, inl refl)
 known Job = (omega arith, refl, inl refl)
+known Uncovered = (omega arith, refl, inl refl)
+known SecondStart = (omega arith, refl, inl refl)
 
 module _ (r : Reason) where
   -- its number is 1 to 255 ..
@@ -49,11 +51,13 @@ module _ (r : Reason) where
   pub carries : (needed r ≡ 0) ⊎ ((n : ℕ) × (r ≡ Table n))
   carries = known r .2
 
--- a refusal of a message, and not of what is lent or of orders: it is none of 15, 16, 17 ..
+-- a refusal of a message, and not of what is lent, of orders or of a second cutter: it is none of 15, 16, 17, 19, 20 ..
 pub record OfMessage (r : Reason) : Type 0 where
   pub not-buffer : reasonNumber r ≢ 15
   pub not-table : reasonNumber r ≢ 16
   pub not-order : reasonNumber r ≢ 17
+  pub not-uncovered : reasonNumber r ≢ 19
+  pub not-second : reasonNumber r ≢ 20
 
 -- .. so that it carries nothing
 pub of-message-needed : (r : Reason) → OfMessage r → needed r ≡ 0

@@ -1,13 +1,13 @@
--- What document 01 says of each refusal: its number, what it carries, and its printed group.
+-- What documents 01 and 02 say of each refusal: its number, what it carries, and its printed group.
 use Prim.Native.Nat.{ℕ}
 use mathlib.Core.Bool.{cond}
 use lib.Dec.{leb, eqb}
 use Rattle.refusal.specs.declared.Reason.{Reason}
-use Rattle.refusal.specs.declared.Reason.the-variants.{Opening, Ends, Groups, Edition, Kinds, Goal, Shift, Start, Gap, Pupils, Places, Jobs, JobKind, LeftOver, Buffer, Table, NoOrder, Job}
+use Rattle.refusal.specs.declared.Reason.the-variants.{Opening, Ends, Groups, Edition, Kinds, Goal, Shift, Start, Gap, Pupils, Places, Jobs, JobKind, LeftOver, Buffer, Table, NoOrder, Job, Uncovered, SecondStart}
 use Rattle.refusal.specs.declared.Group.{Group}
 use Rattle.refusal.specs.declared.Group.the-variants.{Message, Contents, Room, Order as InOrder, Unprinted}
 
--- 01's table of checks, column "No."
+-- 01's table of checks, column "No.", and 02's numbers from 19 on
 abbrev pub reasonNumber : Reason → ℕ
 reasonNumber Opening = 1
 reasonNumber Ends = 2
@@ -27,6 +27,8 @@ reasonNumber Buffer = 15
 reasonNumber (Table n) = 16
 reasonNumber NoOrder = 17
 reasonNumber Job = 18
+reasonNumber Uncovered = 19
+reasonNumber SecondStart = 20
 
 -- the needed entries that the reason for 16 holds, else 0
 abbrev pub needed : Reason → ℕ
@@ -48,6 +50,8 @@ needed Buffer = 0
 needed (Table n) = n
 needed NoOrder = 0
 needed Job = 0
+needed Uncovered = 0
+needed SecondStart = 0
 
 -- G: `message` for 1 to 4 and 14, `contents` for 5 to 13, `room` for 15 and 16, `order` for 17
 abbrev pub reasonGroup : Reason → Group
@@ -69,6 +73,8 @@ reasonGroup Buffer = Room
 reasonGroup (Table n) = Room
 reasonGroup NoOrder = InOrder
 reasonGroup Job = Unprinted
+reasonGroup Uncovered = Unprinted
+reasonGroup SecondStart = Unprinted
 
 -- the same by number
 unfoldable pub numberGroup : ℕ → Group

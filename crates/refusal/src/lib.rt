@@ -1,11 +1,11 @@
-// Document 01's refusals: the one vocabulary of reasons, their numbers, and the group and word that the program prints.
+// The refusals of documents 01 and 02: the one vocabulary of reasons, their numbers, and the group and word that the program prints.
 ghost use Prim.Native.Nat.{_≤_};
 ghost use mathlib.Core.Path.{_≡_};
 ghost use lib.ListN.{length};
 ghost use Rattle.refusal.specs.Reasons.{reasonNumber, reasonGroup, numberGroup};
 ghost use Rattle.refusal.specs.Words.{wordOf};
 
-// Why a call is refused: one case for each row of 01's table of checks, in its order, 1 to 18.
+// Why a call is refused: one case for each row of 01's table of checks, in its order, 1 to 18, then what 02 adds.
 pub enum Reason {
     // 1: the first two bytes are missing or other.
     Opening,
@@ -43,6 +43,10 @@ pub enum Reason {
     NoOrder,
     // 18: a job in a plan is 0, over the number of jobs, or at an earlier place.
     Job,
+    // 19: for two cutters the shift plus 1 is under the number of jobs, or a kind's allowed places do not cover 1 to it.
+    Uncovered,
+    // 20: the second start is over the number of kinds.
+    SecondStart,
 }
 
 // The word that the program prints beside a refusal's number.
@@ -81,7 +85,7 @@ pub enum Answer {
     Refused(Reason),
 }
 
-// 01's number of a refusal.
+// The number of a refusal.
 pub fn reason_number(reason: Reason) -> u64
     ensures { λ r. ⌜ r ≡ reasonNumber reason ⌝ }
 {
@@ -104,6 +108,8 @@ pub fn reason_number(reason: Reason) -> u64
         Reason::Table(_) => 16,
         Reason::NoOrder => 17,
         Reason::Job => 18,
+        Reason::Uncovered => 19,
+        Reason::SecondStart => 20,
     }
 }
 

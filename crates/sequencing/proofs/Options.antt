@@ -1,12 +1,14 @@
 -- A cost or none: what a cost that is found says, and what is found at most.
 -- Assumes nothing.
 use mathlib.Core.Bool.{Bool, true, false}
+use mathlib.Core.Logic.{_≢_}
 use mathlib.Core.Option.{Option, none, some}
 use mathlib.Core.Path.{_≡_, refl, sym}
-use Prim.Native.Nat.{ℕ, _+_, _≤_}
+use Prim.Native.Nat.{ℕ, _+_, _-_, _^_, _≤_, _<_}
 use native.Mathlib.Omega.{arith}
 use lib.Dec.{T as Is}
 use Rattle.sequencing.specs.Least.{only, plus, lower}
+use Rattle.sequencing.specs.Entries.{stored}
 use Rattle.sequencing.specs.Counts.{valued}
 
 pub some-eq : (a b : ℕ) → some a ≡ some b → a ≡ b
@@ -54,3 +56,15 @@ upto-right c (some a) (some b) p = omega arith
 pub found-most : (r : Option ℕ) → valued r ≤ 1
 found-most none = omega arith
 found-most (some c) = omega arith
+
+-- ---- as a table holds it
+
+-- 2^64 − 1 is held for none, where no cost is as large
+pub stored-none : (r : Option ℕ) → ((c : ℕ) → r ≡ some c → c < 2 ^ 64 - 1) → stored r ≡ 2 ^ 64 - 1 → r ≡ none
+stored-none none small e = refl
+stored-none (some c) small e = absurd (omega (arith, small c refl))
+
+-- and any other number is the cost
+pub stored-some : (r : Option ℕ) → stored r ≢ 2 ^ 64 - 1 → r ≡ some (stored r)
+stored-some none other = absurd (other refl)
+stored-some (some c) other = refl

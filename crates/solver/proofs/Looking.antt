@@ -3,7 +3,7 @@
 use Prim.Native.Nat.{ℕ, suc, _-_, _≤_, _<_}
 use mathlib.Core.Bool.{cond}
 use mathlib.Core.List.{List}
-use mathlib.Core.Path.{_≡_, sym, ap, _∙_}
+use mathlib.Core.Path.{_≡_, refl, sym, ap, _∙_}
 use native.Mathlib.Omega.{arith}
 use borrow.Author.Tests.{eq-eqb}
 use lib.Dec.{eqb}
@@ -20,7 +20,7 @@ use Rattle.sequencing.proofs.Vectors.{at-sum}
 use Rattle.problem.specs.OfQueue.{problem}
 use Rattle.problem.proofs.Rule.{few-jobs}
 use Rattle.jobs_left.specs.declared.JobsLeft.{JobsLeft}
-use Rattle.jobs_left.specs.Steps.{LeftAt}
+use Rattle.jobs_left.specs.Steps.{Summed, LeftAt}
 use Rattle.jobs_left.proofs.LeftAt.{left-at}
 use Rattle.layout.specs.declared.Layout.{Layout}
 use Rattle.layout.specs.Prepared.{Prepared}
@@ -50,6 +50,24 @@ module _ {q : Queue} {l : Layout} (v : Valid q) (p : Prepared q l) {left : List 
 
   pub weighed : {total : ℕ} → total ≡ weigh (weight q) (take (l .size .kinds) left) → total ≡ weigh (weight q) (kAt (problem q) i)
   weighed e = e ∙ rw (p .kinds-are, w .here)
+
+  -- a look by the queue's own arrays
+  pub own-looks : {table : List ℕ} → Earlier (problem q) table (block (problem q)) → entries (problem q) ≤ length table → length (q .gaps) ≡ 30
+      → {jobs total : ℕ} → Summed (q .weights) (take (q .kinds) left) jobs total
+      → LooksAt q l table left (l .strides) (q .gaps) (l .size .block) (q .goal) (record { index = i; jobs = jobs; weight = total })
+  own-looks all room long sums = record {
+    valid = v;
+    prepared = p;
+    filled = all;
+    room = room;
+    left-is = w;
+    sums-are = sums;
+    strides-are = refl;
+    gaps-are = refl;
+    gaps-long = long;
+    size-is = refl;
+    goal-is = refl;
+  }
 
   -- with every entry filled
   pub whole : {table : List ℕ} → length (q .gaps) ≡ 30 → Earlier (problem q) table (block (problem q)) → entries (problem q) ≤ length table → Look q l table left i

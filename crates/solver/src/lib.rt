@@ -4,7 +4,7 @@ use layout::Layout;
 use next_states::Least;
 use queue::Queue;
 ghost use mathlib.Core.Path.{_≡_};
-ghost use Prim.Native.Nat.{ℕ, _+_, _-_, _≤_, _<_};
+ghost use Prim.Native.Nat.{_+_, _-_, _≤_, _<_};
 ghost use lib.ListN.{length, getD, set};
 ghost use Rattle.queue.specs.declared.Queue.{Queue};
 ghost use Rattle.queue.specs.Record.{Valid};

@@ -1,53 +1,20 @@
 -- The bytes of a split plan say all of it: plans with the same message are the same up to their counts.
 -- Assumes nothing.
-use Prim.Native.Nat.{ℕ, zero, suc, _+_, _^_, _<_, _≤_}
+use Prim.Native.Nat.{ℕ, _≤_}
 use mathlib.Core.Path.{_≡_, refl, sym, ap, ap₂, _∙_}
 use mathlib.Core.Logic.{_↔_}
-use mathlib.Core.List.{List, [], _∷_, _++_, append-assoc, flatMap}
-use native.Mathlib.Omega.{arith}
-use native.Mathlib.Nat.{pow-suc}
-use lib.ListN.{length, drop}
-use lib.Seq.{drop-append-seam}
-use Rattle.number.specs.Readers.{found}
-use Rattle.number.specs.Numbers.{number, encode}
-use Rattle.number.proofs.Steps.{found-value}
+use mathlib.Core.List.{List, [], _∷_, _++_, append-assoc}
+use lib.ListN.{length}
+use Rattle.number.specs.Numbers.{encode}
 use Rattle.fields.specs.Fields.{encodeAll}
-use Rattle.fields.proofs.RoundTrip.{number-written}
+use Rattle.fields.proofs.Prefixes.{rest-same, number-first, numbers-first}
 use Rattle.split_plan.specs.declared.Cutter.{Cutter}
 use Rattle.split_plan.specs.declared.SplitPlan.{SplitPlan}
 use Rattle.split_plan.specs.Record.{jobList, cutterOf, splitOf, SameJobs, Same}
 use Rattle.split_plan.specs.Writing.{cutterBytes, message}
 use Rattle.split_plan.proofs.Cutters.{job-list-length, held, same-lists}
 
-below-power : (k v : ℕ) → v ≤ k → v < 128 ^ suc k
-below-power zero v h = omega (arith, pow-suc 128 0)
-below-power (suc k) v h = omega (arith, pow-suc 128 (suc k), below-power k k (omega arith))
-
-behind : (xs s t : List ℕ) → xs ++ s ≡ xs ++ t → s ≡ t
-behind xs s t e = sym (drop-append-seam xs s) ∙ ap (drop (length xs)) e ∙ drop-append-seam xs t
-
--- bytes that begin with a number begin with no other
-number-first : (v w : ℕ) (s t : List ℕ) → encode v ++ s ≡ encode w ++ t → (v ≡ w) × (s ≡ t)
-number-first v w s t e =
-    let reads : (x : ℕ) (rest : List ℕ) → x ≤ v + w → number (suc (v + w)) (encode x ++ rest) 0 ≡ found x (0 + length (encode x)) =
-    λ x rest h. number-written (suc (v + w)) (encode x ++ rest) 0 x rest (omega arith) (below-power (v + w) x h) refl in
-    let same : v ≡ w =
-    found-value v w _ _ (sym (reads v s (omega arith)) ∙ ap (λ (l : List ℕ). number (suc (v + w)) l 0) e ∙ reads w t (omega arith)) in
-    (same, behind (encode v) s t (e ∙ ap (λ (x : ℕ). encode x ++ t) (sym same)))
-
--- nor do bytes that begin with so many numbers begin with so many others
-numbers-first : (xs ys : List ℕ) → length xs ≡ length ys → (s t : List ℕ) → encodeAll xs ++ s ≡ encodeAll ys ++ t → (xs ≡ ys) × (s ≡ t)
-unfolding flatMap
-numbers-first [] [] n s t e = (refl, e)
-numbers-first [] (y ∷ ys) n s t e = absurd (omega arith)
-numbers-first (x ∷ xs) [] n s t e = absurd (omega arith)
-numbers-first (x ∷ xs) (y ∷ ys) n s t e =
-    let (here, more) = number-first x y (encodeAll xs ++ s) (encodeAll ys ++ t)
-    (sym (append-assoc (encode x) (encodeAll xs) s) ∙ e ∙ append-assoc (encode y) (encodeAll ys) t) in
-    let (rest, end) = numbers-first xs ys (omega arith) s t more in
-    (ap₂ _∷_ here rest, end)
-
--- nor with the count and jobs of another cutter
+-- bytes that begin with the count and jobs of a cutter begin with those of no other
 cutter-first : (c d : Cutter) (s t : List ℕ) → cutterBytes c ++ s ≡ cutterBytes d ++ t → SameJobs c d × (s ≡ t)
 cutter-first c d s t e =
     let (count, more) = number-first (c .jobs) (d .jobs) (encodeAll (jobList c) ++ s) (encodeAll (jobList d) ++ t)
@@ -69,7 +36,7 @@ pub message-tells : (p q : SplitPlan) → (message p ≡ message q) ↔ Same p q
 unfolding message
 message-tells p q = (
   λ e.
-      let all = behind opened _ _ (sym (parts p) ∙ e ∙ parts q) in
+      let all = rest-same opened _ _ (sym (parts p) ∙ e ∙ parts q) in
       let (goal, more) = number-first (p .goal) (q .goal) _ _ all in
       let (cost, cutters) = number-first (p .cost) (q .cost) _ _ more in
       let (first, last) = cutter-first (p .first) (q .first) _ _ cutters in

@@ -1,12 +1,15 @@
 -- The cost of a split by two looks: what both find, none where either finds none.
 -- Assumes nothing.
+use mathlib.Core.Bool.{true, false}
 use mathlib.Core.List.{List}
 use mathlib.Core.Logic.{inl, inr}
 use mathlib.Core.Option.{Option, none, some}
 use mathlib.Core.Path.{_≡_, refl, sym, ap, _∙_}
+use mathlib.Mathlib.Data.Bool.Basic.{dichotomy}
 use Prim.Native.Nat.{ℕ, _+_, _-_, _^_, _≤_, _<_}
 use native.Mathlib.Nat.{eq-zero-or-pos}
 use native.Mathlib.Omega.{arith}
+use lib.Dec.{ltb, eqb}
 use Rattle.units.specs.declared.Cost.{Cost}
 use Rattle.units.specs.Costs.{costIn, numberOf, inSeconds, together}
 use Rattle.units.proofs.Costs.{number-is, one-unit, together-is}
@@ -16,6 +19,7 @@ use Rattle.sequencing.specs.Lists.{sum}
 use Rattle.sequencing.specs.Least.{argLeast}
 use Rattle.sequencing.specs.Recursion.{toGo, costToGo, choice}
 use Rattle.sequencing.specs.Entries.{kAt, block, stored}
+use Rattle.sequencing.proofs.Options.{stored-none, stored-some}
 use Rattle.sequencing.proofs.Entries.{left-digits}
 use Rattle.sequencing.proofs.Equations.{cost-some-left}
 use Rattle.sequencing.proofs.Least.{smallest}
@@ -27,10 +31,8 @@ use Rattle.splitting.specs.Scan.{costAt}
 use Rattle.splitting.proofs.ByIndex.{cost-at}
 use Rattle.jobs_left.specs.declared.JobsLeft.{JobsLeft}
 use Rattle.layout.specs.declared.Layout.{Layout}
-use Rattle.next_states.specs.declared.Least.{Least}
-use Rattle.solver.specs.Looking.{LookedUp}
 use Rattle.split_search.specs.declared.Bench.{Bench}
-use Rattle.split_search.specs.Searching.{SplitsAt}
+use Rattle.split_search.specs.Searching.{alone, costUpto, SplitsAt}
 use Rattle.split_search.proofs.Rest.{in-block, mirrored-is}
 
 -- no look finds more than the number
@@ -51,23 +53,18 @@ module _ (goal : ℕ) where
   Small r = (c : ℕ) → r ≡ some c → c ≤ valueLimit
 
   none-is : (r : Option ℕ) {x : Cost} → Small r → x ≡ costIn goal (stored r) → numberOf x ≡ 2 ^ 64 - 1 → r ≡ none
-  none-is none small e h = refl
-  none-is (some c) small e h = absurd (omega (arith, number-is goal c e, small c refl, limit-fits))
+  none-is r small e h = stored-none r (λ c f. omega (arith, small c f, limit-fits)) (sym (number-is goal (stored r) e) ∙ h)
 
   some-is : (r : Option ℕ) {x : Cost} → x ≡ costIn goal (stored r) → (numberOf x ≡ 2 ^ 64 - 1 → ⊥) → (c : ℕ) × (r ≡ some c) × (x ≡ costIn goal c)
-  some-is none e h = absurd (h (number-is goal (2 ^ 64 - 1) e))
-  some-is (some c) e h = (c, refl, e)
+  some-is r e h = (stored r, stored-some r (λ f. h (number-is goal (stored r) e ∙ f)), e)
 
   module _ (a b : Option ℕ) {x : Cost} (small-a : Small a) (x-is : x ≡ costIn goal (stored a)) where
-    first-none : numberOf x ≡ 2 ^ 64 - 1 → x ≡ costIn goal (stored (both goal a b))
-    first-none h = let e = none-is a small-a x-is h in x-is ∙ rw e
+    first-none : numberOf x ≡ 2 ^ 64 - 1 → both goal a b ≡ none
+    first-none h = rw (none-is a small-a x-is h)
 
     module _ {y : Cost} (small-b : Small b) (y-is : y ≡ costIn goal (stored b)) (found : numberOf x ≡ 2 ^ 64 - 1 → ⊥) where
-      second-none : numberOf y ≡ 2 ^ 64 - 1 → y ≡ costIn goal (stored (both goal a b))
-      second-none h =
-          let e = none-is b small-b y-is h in
-          let (c, f, _) = some-is a x-is found in
-          y-is ∙ rw (e, f)
+      second-none : numberOf y ≡ 2 ^ 64 - 1 → both goal a b ≡ none
+      second-none h = let (c, f, _) = some-is a x-is found in rw (f, none-is b small-b y-is h)
 
       module _ (found′ : numberOf y ≡ 2 ^ 64 - 1 → ⊥) where
         both-fit : numberOf x + numberOf y < 2 ^ 64
@@ -82,9 +79,15 @@ module _ (goal : ℕ) where
             let (d, g, q) = some-is b y-is found′ in
             rw (f, g) (together-is goal c p d q)
 
+-- the first cutter alone never costs more than both
+alone-both : (goal : ℕ) (a b : Option ℕ) → ((c : ℕ) → a ≡ some c → c ≤ 2 ^ 64 - 1) → stored a ≤ stored (both goal a b)
+alone-both goal none b most = omega arith
+alone-both goal (some a) none most = most a refl
+alone-both goal (some a) (some b) most = elim (dichotomy (eqb goal 1)) [ inr e ↦ rw e (omega arith) | inl e ↦ rw e (omega arith) ]
+
 -- of one split
 module _ {q : Queue} {l : Layout} {table left counts strides gaps : List ℕ} {goal : ℕ} {b : Bench} {k : JobsLeft}
-    (s : SplitsAt q l table left counts strides gaps goal b k) {first : Least} (f : LookedUp q (b .start) (kAt (problem q) (k .index)) first) where
+    (s : SplitsAt q l table left counts strides gaps goal b k) where
   abbrev A : Option ℕ
   A = costToGo (problem q) (q .start) (kAt (problem q) (k .index))
 
@@ -94,35 +97,62 @@ module _ {q : Queue} {l : Layout} {table left counts strides gaps : List ℕ} {g
   cost-is : costAt (problem q) (b .second) (k .index) ≡ stored (both (q .goal) A B)
   cost-is = cost-at (problem q) (k .index) (in-block s) (s .permitted) (b .second)
 
+  -- the first cutter's start is a row
+  pub start-in : b .start ≤ q .kinds
+  start-in = omega (arith, s .start-is, s .looks .valid .start)
+
   small-A : Small (q .goal) A
   small-A c e = look-limit q (s .looks .valid) (q .start) (k .index) c (s .looks .valid .start) e
 
   small-B : Small (q .goal) B
   small-B c e = look-limit q (s .looks .valid) (b .second) (block (problem q) - 1 - k .index) c (s .second-in) e
 
-  first-is : first .cost ≡ costIn (q .goal) (stored A)
-  first-is = rw (s .start-is) at (f .cost-is)
+  pub alone-low : alone (problem q) (k .index) ≤ costAt (problem q) (b .second) (k .index)
+  alone-low = rw cost-is (alone-both (q .goal) A B (λ c e. omega (arith, small-A c e, limit-fits)))
 
-  -- the first cutter has no order
-  pub no-first : numberOf (first .cost) ≡ 2 ^ 64 - 1 → first .cost ≡ costIn (q .goal) (costAt (problem q) (b .second) (k .index))
-  no-first h = first-none (q .goal) A B small-A first-is h ∙ ap (costIn (q .goal)) (sym cost-is)
+  module _ {x : Cost} (f : x ≡ costIn (q .goal) (stored (costToGo (problem q) (b .start) (kAt (problem q) (k .index))))) where
+    first-is : x ≡ costIn (q .goal) (stored A)
+    first-is = rw (s .start-is) at f
 
-  module _ {second : Least} (g : LookedUp q (b .second) (kAt (problem q) (b .size .block - 1 - k .index)) second) where
-    second-is : second .cost ≡ costIn (q .goal) (stored B)
-    second-is = rw (mirrored-is s) at (g .cost-is)
+    -- the best so far is in the same unit
+    pub one-unit-with : {most : Cost} → most ≡ costIn goal (numberOf most) → inSeconds most ≡ inSeconds x
+    one-unit-with {most} e = one-unit (q .goal) (numberOf most) (rw (s .looks .goal-is) at e) (stored A) first-is
 
-    pub one-unit-both : inSeconds (first .cost) ≡ inSeconds (second .cost)
-    one-unit-both = one-unit (q .goal) (stored A) first-is (stored B) second-is
+    alone-is : numberOf x ≡ alone (problem q) (k .index)
+    alone-is = number-is (q .goal) (stored A) first-is
 
-    module _ (found : numberOf (first .cost) ≡ 2 ^ 64 - 1 → ⊥) where
-      -- the second has none
-      pub no-second : numberOf (second .cost) ≡ 2 ^ 64 - 1 → second .cost ≡ costIn (q .goal) (costAt (problem q) (b .second) (k .index))
-      no-second h = second-none (q .goal) A B small-A first-is small-B second-is found h ∙ ap (costIn (q .goal)) (sym cost-is)
+    -- the first cutter costs more than m alone, or not
+    pub dearer : (m : ℕ) → ltb m (numberOf x) ≡ true
+        → costIn goal (numberOf x) ≡ costIn (q .goal) (costUpto (problem q) (b .second) m (k .index))
+    dearer m e = let f = rw alone-is at e in rw (s .looks .goal-is, alone-is, f)
 
-      module _ (found′ : numberOf (second .cost) ≡ 2 ^ 64 - 1 → ⊥) where
-        pub sum-fits : numberOf (first .cost) + numberOf (second .cost) < 2 ^ 64
-        sum-fits = both-fit (q .goal) A B small-A first-is small-B second-is found found′
+    pub not-dearer : (m : ℕ) → ltb m (numberOf x) ≡ false
+        → costUpto (problem q) (b .second) m (k .index) ≡ costAt (problem q) (b .second) (k .index)
+    not-dearer m e = let f = rw alone-is at e in rw f
 
-        -- both have one
-        pub both-cost : together (first .cost) (second .cost) ≡ costIn (q .goal) (costAt (problem q) (b .second) (k .index))
-        both-cost = both-found (q .goal) A B small-A first-is small-B second-is found found′ ∙ ap (costIn (q .goal)) (sym cost-is)
+    none-at : both (q .goal) A B ≡ none → costIn goal (2 ^ 64 - 1) ≡ costIn (q .goal) (costAt (problem q) (b .second) (k .index))
+    none-at e = rw (s .looks .goal-is) (ap (costIn (q .goal)) (sym (cost-is ∙ ap stored e)))
+
+    -- the first cutter has no order
+    pub no-first : numberOf x ≡ 2 ^ 64 - 1 → costIn goal (2 ^ 64 - 1) ≡ costIn (q .goal) (costAt (problem q) (b .second) (k .index))
+    no-first h = none-at (first-none (q .goal) A B small-A first-is h)
+
+    module _ {y : Cost} (g : y ≡ costIn (q .goal) (stored (costToGo (problem q) (b .second) (kAt (problem q) (b .size .block - 1 - k .index))))) where
+      second-is : y ≡ costIn (q .goal) (stored B)
+      second-is = rw (mirrored-is s) at g
+
+      pub one-unit-both : inSeconds x ≡ inSeconds y
+      one-unit-both = one-unit (q .goal) (stored A) first-is (stored B) second-is
+
+      module _ (found : numberOf x ≡ 2 ^ 64 - 1 → ⊥) where
+        -- the second has none
+        pub no-second : numberOf y ≡ 2 ^ 64 - 1 → costIn goal (2 ^ 64 - 1) ≡ costIn (q .goal) (costAt (problem q) (b .second) (k .index))
+        no-second h = none-at (second-none (q .goal) A B small-A first-is small-B second-is found h)
+
+        module _ (found′ : numberOf y ≡ 2 ^ 64 - 1 → ⊥) where
+          pub sum-fits : numberOf x + numberOf y < 2 ^ 64
+          sum-fits = both-fit (q .goal) A B small-A first-is small-B second-is found found′
+
+          -- both have one
+          pub both-cost : together x y ≡ costIn (q .goal) (costAt (problem q) (b .second) (k .index))
+          both-cost = both-found (q .goal) A B small-A first-is small-B second-is found found′ ∙ ap (costIn (q .goal)) (sym cost-is)

@@ -3,3 +3,4 @@ pub mod Costs
 pub mod Before
 pub mod Searching
 pub mod Shares
+pub mod Rows

@@ -35,6 +35,7 @@ use Rattle.next_states.specs.declared.Least.{Least}
 use Rattle.filling.specs.Filling.{Earlier}
 use Rattle.solver.specs.Looking.{LooksAt, LookedUp}
 use Rattle.solver.specs.Following.{Share, Followed}
+use Rattle.solver.proofs.Looking.{own-looks}
 use Rattle.solver.proofs.Walking.{some-cost, takes-next}
 use Rattle.split_search.specs.declared.Split.{Split}
 use Rattle.split_search.specs.Searching.{SplitsAt, Best}
@@ -51,19 +52,8 @@ module _ {q : Queue} {l : Layout} {left upto : List ℕ} {index jobs L : ℕ} (s
   pub share-looks : {table : List ℕ} → Earlier (problem q) table (block (problem q)) → entries (problem q) ≤ length table → length (q .gaps) ≡ 30
       → {w : ℕ} → w ≡ weigh (weight q) (take (l .size .kinds) left)
       → LooksAt q l table left (l .strides) (q .gaps) (l .size .block) (q .goal) (record { index = index; jobs = jobs; weight = w })
-  share-looks full room long e = record {
-    valid = s .valid;
-    prepared = s .prepared;
-    filled = full;
-    room = room;
-    left-is = s .left-is;
-    sums-are = record { jobs-are = s .jobs-are ∙ ap sum (sym (s .left-is .here)); weight-is = e ∙ rw (s .prepared .kinds-are) };
-    strides-are = refl;
-    gaps-are = refl;
-    gaps-long = long;
-    size-is = refl;
-    goal-is = refl;
-  }
+  share-looks full room long e = own-looks (s .valid) (s .prepared) (s .left-is) full room long
+      (record { jobs-are = s .jobs-are ∙ ap sum (sym (s .left-is .here)); weight-is = e ∙ rw (s .prepared .kinds-are) })
 
   module _ {r : Least} (f : LookedUp q L k r) where
     next-is : 0 < sum k → r .kind ≡ argLeast (choice (problem q) L k) (q .kinds)

@@ -2,24 +2,33 @@
 use mathlib.Core.Bool.{cond}
 use mathlib.Core.List.{List}
 use mathlib.Core.Path.{_≡_}
-use Prim.Native.Nat.{ℕ, _≤_}
+use Prim.Native.Nat.{ℕ, _-_, _^_, _≤_}
 use lib.Dec.{ltb}
-use lib.ListN.{take}
+use lib.ListN.{take, replicate}
 use Rattle.units.specs.Costs.{costIn, numberOf}
 use Rattle.queue.specs.declared.Queue.{Queue}
 use Rattle.queue.specs.Record.{weight}
 use Rattle.sequencing.specs.Lists.{sum, weigh}
-use Rattle.sequencing.specs.Problem.{AllPermitted}
+use Rattle.sequencing.specs.Problem.{Problem, AllPermitted}
 use Rattle.sequencing.specs.States.{allLeft}
-use Rattle.sequencing.specs.Entries.{kAt}
+use Rattle.sequencing.specs.Recursion.{costToGo}
+use Rattle.sequencing.specs.Entries.{kAt, stored}
 use Rattle.problem.specs.OfQueue.{problem}
-use Rattle.splitting.specs.Scan.{isBefore, TakenAt}
+use Rattle.splitting.specs.Scan.{isBefore, costAt, TakenAt}
 use Rattle.jobs_left.specs.declared.JobsLeft.{JobsLeft}
 use Rattle.jobs_left.specs.Steps.{LeftAt}
 use Rattle.layout.specs.declared.Layout.{Layout}
 use Rattle.solver.specs.Looking.{LooksAt}
 use Rattle.split_search.specs.declared.Split.{Split}
 use Rattle.split_search.specs.declared.Bench.{Bench}
+
+-- what the first cutter costs alone in the split whose counts have index i, as a table holds it
+abbrev pub alone : Problem → (i : ℕ) → ℕ
+alone P i = stored (costToGo P (P .start) (kAt P i))
+
+-- the cost of that split; where the first cutter costs more than m alone, only that
+abbrev pub costUpto : Problem → (s m i : ℕ) → ℕ
+costUpto P s m i = cond (ltb m (alone P i)) (alone P i) (costAt P s i)
 
 -- what the cost of one split is found from: a look at the first cutter's counts k, and what is the same for all splits
 pub record SplitsAt (q : Queue) (l : Layout) (table left counts strides gaps : List ℕ) (goal : ℕ) (b : Bench) (k : JobsLeft) : Type 0 where
@@ -30,6 +39,10 @@ pub record SplitsAt (q : Queue) (l : Layout) (table left counts strides gaps : L
   pub start-is : b .start ≡ q .start
   pub second-in : b .second ≤ q .kinds
   pub permitted : AllPermitted (problem q)
+
+-- no split yet, which costs more than any
+abbrev pub noSplit : (goal : ℕ) → Split
+noSplit goal = record { cost = costIn goal (2 ^ 64 - 1); index = 0; jobs = 0; counts = replicate 5 0 }
 
 -- the better of two splits: that of the lower cost, and of equal costs that with 02's smaller counts
 abbrev pub firstOf : (kinds : ℕ) (held next : Split) → Split

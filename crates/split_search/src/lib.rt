@@ -10,19 +10,21 @@ ghost use mathlib.Core.Path.{_≡_};
 ghost use Prim.Native.Nat.{ℕ, _-_, _≤_, _<_};
 ghost use lib.Dec.{T as Is};
 ghost use lib.ListN.{length, getD, take};
-ghost use Rattle.units.specs.Costs.{costIn, inSeconds};
+ghost use Rattle.units.specs.Costs.{costIn, numberOf, inSeconds};
 ghost use Rattle.fields.specs.Lists.{filled};
 ghost use Rattle.queue.specs.declared.Queue.{Queue};
 ghost use Rattle.queue.specs.Record.{Valid};
-ghost use Rattle.sequencing.specs.Entries.{kAt, block, entries};
+ghost use Rattle.sequencing.specs.Recursion.{costToGo};
+ghost use Rattle.sequencing.specs.Entries.{kAt, block, entries, stored};
 ghost use Rattle.problem.specs.OfQueue.{problem};
 ghost use Rattle.splitting.specs.Taken.{takenCost, firstOrder, secondOrder};
 ghost use Rattle.splitting.specs.Covers.{covers};
-ghost use Rattle.splitting.specs.Scan.{isBefore, costAt};
+ghost use Rattle.splitting.specs.Scan.{isBefore};
 ghost use Rattle.layout.specs.declared.Layout.{Layout};
 ghost use Rattle.layout.specs.Prepared.{Prepared};
 ghost use Rattle.filling.specs.Filling.{Earlier};
-ghost use Rattle.split_search.specs.Searching.{SplitsAt, firstOf, Best};
+ghost use Rattle.solver.specs.Looking.{LooksAt};
+ghost use Rattle.split_search.specs.Searching.{costUpto, SplitsAt, noSplit, firstOf, Best};
 ghost use Rattle.split_search.specs.Shares.{ShareFrom, orderFrom};
 
 // A split by its counts: what both cutters cost, NONE of its unit where either has no order, and how many of each kind the first cutter has, with their
@@ -56,7 +58,32 @@ fn others(counts: &[u32], left: &[u32]) -> [u32; 5]
     rest
 }
 
-// What the split costs whose counts are these: the first cutter's jobs looked up from its start, the others from the second's.
+// What the jobs left cost after a row (a kind, or 0 for the cold cutter): the row's own entry where it holds a value, else by a look.
+fn cost_after(
+    table: &[u64],
+    left: &[u32],
+    strides: &[usize],
+    gaps: &[u32],
+    block: usize,
+    goal: u32,
+    k: JobsLeft,
+    row: usize,
+) -> Cost
+    requires { ⌜ ((q : Queue) × (l : Layout) × (LooksAt q l (now table) (now left) (now strides) (now gaps) block goal k × (row ≤ q .kinds))) ⌝ }
+    ensures { λ r. ⌜ ((q : Queue) (l : Layout) → LooksAt q l (now (table .entry)) (now (left .entry)) (now (strides .entry)) (now (gaps .entry)) block goal k → row ≤ q .kinds → r ≡ costIn (q .goal) (stored (costToGo (problem q) row (kAt (problem q) (k .index))))) ⌝ }
+{
+    if 0 < row {
+        let value = table[(row - 1) * block + k.index];
+        if value != next_states::NONE {
+            return units::cost_in(goal, value);
+        }
+    }
+    let found = solver::look(table, left, strides, gaps, block, goal, k, row);
+    found.cost
+}
+
+// What the split costs whose counts are these: the first cutter's jobs after its start, the others after the second's. Where the first cutter costs more
+// than `most` alone, the others are not looked up.
 fn split_cost(
     table: &[u64],
     left: &[u32],
@@ -66,15 +93,19 @@ fn split_cost(
     goal: u32,
     bench: Bench,
     k: JobsLeft,
+    most: Cost,
 ) -> Cost
     requires { ⌜ ((q : Queue) × (l : Layout) × SplitsAt q l (now table) (now left) (now counts) (now strides) (now gaps) goal bench k) ⌝ }
-    ensures { λ r. ⌜ ((q : Queue) (l : Layout) → SplitsAt q l (now (table .entry)) (now (left .entry)) (now (counts .entry)) (now (strides .entry)) (now (gaps .entry)) goal bench k → r ≡ costIn (q .goal) (costAt (problem q) (bench .second) (k .index))) ⌝ }
+    requires { ⌜ most ≡ costIn goal (numberOf most) ⌝ }
+    ensures { λ r. ⌜ ((q : Queue) (l : Layout) → SplitsAt q l (now (table .entry)) (now (left .entry)) (now (counts .entry)) (now (strides .entry)) (now (gaps .entry)) goal bench k → r ≡ costIn (q .goal) (costUpto (problem q) (bench .second) (numberOf most) (k .index))) ⌝ }
 {
     let size = bench.size;
-    let first = solver::look(table, left, strides, gaps, size.block, goal, k, bench.start);
-    let cost = first.cost;
+    let cost = cost_after(table, left, strides, gaps, size.block, goal, k, bench.start);
+    if most.less(cost) {
+        return units::cost_in(goal, cost.number());
+    }
     if cost.number() == next_states::NONE {
-        return cost;
+        return units::cost_in(goal, next_states::NONE);
     }
     let rest = others(counts, left);
     let rest_k = JobsLeft {
@@ -83,10 +114,9 @@ fn split_cost(
         weight: bench.weight - k.weight,
     };
     let row = bench.second;
-    let second = solver::look(table, &rest, strides, gaps, size.block, goal, rest_k, row);
-    let other = second.cost;
+    let other = cost_after(table, &rest, strides, gaps, size.block, goal, rest_k, row);
     if other.number() == next_states::NONE {
-        return other;
+        return units::cost_in(goal, next_states::NONE);
     }
     cost.together(other)
 }
@@ -129,7 +159,19 @@ fn first_of(held: Split, next: Split, kinds: usize) -> Split
     held
 }
 
-// The split taken, by a filled table.
+// No split yet: NONE of the goal's unit, with no jobs on the first cutter.
+fn no_split(goal: u32) -> Split
+    ensures { λ r. ⌜ r ≡ noSplit goal ⌝ }
+{
+    Split {
+        cost: units::cost_in(goal, next_states::NONE),
+        index: 0,
+        jobs: 0,
+        counts: [0; 5],
+    }
+}
+
+// The split taken, by a filled table. A split that costs more than the best so far is passed over, so that nothing is copied for it.
 pub fn best_split(queue: Queue, layout: Layout, table: &[u64], second: usize) -> Split
     requires { ⌜ Valid queue × (Prepared queue layout × (Earlier (problem queue) (now table) (block (problem queue)) × ((entries (problem queue) ≤ length (now table)) × (Is (covers queue) × (second ≤ queue .kinds))))) ⌝ }
     ensures { λ r. ⌜ Best queue second r ⌝ }
@@ -146,26 +188,28 @@ pub fn best_split(queue: Queue, layout: Layout, table: &[u64], second: usize) ->
         second,
     };
     let mut left = [0u32; 5];
-    let mut best = Split {
-        cost: units::cost_in(queue.goal, next_states::NONE),
-        index: 0,
-        jobs: 0,
-        counts: left,
-    };
+    let goal = queue.goal;
+    let mut best = no_split(goal);
     let mut k = JobsLeft {
         index: 0,
         jobs: 0,
         weight: 0,
     };
     while k.index < size.block {
-        let next = Split {
-            cost: split_cost(table, &left, &counts, &strides, &gaps, queue.goal, bench, k),
-            index: k.index,
-            jobs: k.jobs,
-            counts: left,
-        };
-        best = first_of(best, next, size.kinds);
-        k = jobs_left::step_left(&mut left, &counts, &weights, size.kinds, k);
+        let most = best.cost;
+        let cost = split_cost(table, &left, &counts, &strides, &gaps, goal, bench, k, most);
+        if most.less(cost) {
+            k = jobs_left::step_left(&mut left, &counts, &weights, size.kinds, k);
+        } else {
+            let next = Split {
+                cost,
+                index: k.index,
+                jobs: k.jobs,
+                counts: left,
+            };
+            best = first_of(best, next, queue.kinds as usize);
+            k = jobs_left::step_left(&mut left, &counts, &weights, size.kinds, k);
+        }
     }
     best
 }

@@ -9,19 +9,20 @@ use mathlib.Mathlib.Data.Bool.Basic.{dichotomy}
 use Prim.Native.Nat.{ℕ, _≤_}
 use native.Mathlib.Omega.{arith}
 use lib.Dec.{eqb}
-use Rattle.sequencing.specs.Lists.{upto}
-use Rattle.sequencing.specs.Problem.{Problem, T, Proper}
+use lib.ListN.{length, length-map}
+use Rattle.sequencing.specs.Lists.{upto, sum}
+use Rattle.sequencing.specs.Problem.{Problem, T, kind, Proper}
 use Rattle.sequencing.specs.Orders.{finishes, makespan, weightedCompletion, cost}
 use Rattle.sequencing.specs.States.{allLeft, IsLeft}
 use Rattle.sequencing.specs.Recursion.{costToGo, planCost}
-use Rattle.sequencing.proofs.AllJobs.{at-all, length-all, all-left, below-all}
+use Rattle.sequencing.proofs.AllJobs.{at-all, length-all, sum-all, all-left, below-all}
 use Rattle.sequencing.proofs.Options.{some-eq, none-some, Upto}
 use Rattle.splitting.specs.Splits.{onCutter, ofBoth, IsSplit, splitCost}
 use Rattle.splitting.specs.Shares.{share, shareOrder, firstShare, secondShare}
 use Rattle.splitting.specs.Taken.{both, countsCost, takenCost, takenCounts, firstOrder, secondOrder, Taken}
-use Rattle.splitting.proofs.Lists.{same-at}
+use Rattle.splitting.proofs.Lists.{same-at, count-length}
 use Rattle.splitting.proofs.Bridge.{Alike, plan-bridge}
-use Rattle.splitting.proofs.Shares.{in-turn, Planned, planned, planned-least}
+use Rattle.splitting.proofs.Shares.{in-turn, Planned, share-proper, planned, planned-least}
 use Rattle.splitting.proofs.Counts.{Together, split-together, together-split, among, together-kinds, shares-together, in-shares, first-counts, second-K}
 use Rattle.splitting.proofs.Least.{Within, least-below, least-within, least-first}
 use Rattle.splitting.proofs.Precedes.{precedes-one}
@@ -120,6 +121,13 @@ module _ (P : Problem) (proper : Proper P) (s : ℕ) where
     unfolding splitCost
     counts-costs = ap₂ (ofBoth (P .goal)) (on-first .costs) (on-second .costs) ∙ sym (counts-are P s n c e .4)
 
+    -- as many jobs as the counts say
+    counts-long : IsLeft P n → length (shareOrder P (P .start) (firstShare P n)) ≡ sum n
+    counts-long l =
+        let js = firstShare P n in
+        let jobs = sum-all (share P (P .start) js) (share-proper P (P .start) js proper (λ z h. in-shares P n z (omega arith))) in
+        count-length (shareOrder P (P .start) js) js (on-first .jobs) ∙ sym (length-map js (kind P)) ∙ sym jobs ∙ ap sum (first-counts P n l (P .start))
+
   -- ---- the split taken
 
   within : (n : List ℕ) → IsLeft P n → Within (allLeft P) n
@@ -150,6 +158,11 @@ module _ (P : Problem) (proper : Proper P) (s : ℕ) where
     pub is-split : IsSplit P (firstOrder P s) (secondOrder P s)
     unfolding firstOrder secondOrder
     is-split = counts-split (takenCounts P s) c (taken .reached)
+
+    -- as many to the first as its counts say
+    pub first-long : length (firstOrder P s) ≡ sum (takenCounts P s)
+    unfolding firstOrder
+    first-long = counts-long (takenCounts P s) c (taken .reached) (taken .counts)
 
     -- the two orders cost, by their own finishes, what is said
     pub split-costs : splitCost P s (firstOrder P s) (secondOrder P s) ≡ c

@@ -2,11 +2,10 @@
 -- is followed from the index of the split taken are its two orders.
 -- Assumes nothing.
 use mathlib.Core.List.{List, [], _∷_}
-use mathlib.Core.Logic.{_↔_}
 use mathlib.Core.Option.{none, some}
 use mathlib.Core.Path.{_≡_, refl, sym, ap, _∙_}
 use Prim.Native.Nat.{ℕ, zero, suc, _+_, _-_, _≤_, _<_}
-use native.Mathlib.Nat.{suc-mul, mul-add, mul-suc}
+use native.Mathlib.Nat.{mul-add, mul-suc}
 use native.Mathlib.Omega.{arith}
 use lib.ListN.{length}
 use Rattle.sequencing.specs.Lists.{at, sum}
@@ -28,20 +27,6 @@ use Rattle.splitting.proofs.Best.{taken}
 use Rattle.splitting.proofs.Table.{looked-up, looks-found, first-order, second-order}
 
 -- ---- any counts up to cs
-
--- each job counts for at least 1 in an index, and nothing else does
-index-some : (cs k : List ℕ) → length k ≡ length cs → sum k ≤ index cs k
-unfolding index sum
-index-some [] [] e = omega arith
-index-some [] (a ∷ k) e = absurd (omega arith)
-index-some (c ∷ cs) [] e = omega arith
-index-some (c ∷ cs) (a ∷ k) e = omega (arith, index-some cs k (omega arith), suc-mul c (index cs k))
-
-index-none : (cs k : List ℕ) → sum k ≡ 0 → index cs k ≡ 0
-unfolding index sum
-index-none [] k e = refl
-index-none (c ∷ cs) [] e = refl
-index-none (c ∷ cs) (a ∷ k) e = let z : index cs k ≡ 0 = index-none cs k (omega arith) in rw z (omega arith)
 
 -- two that add up to cs
 record Rest (cs k l : List ℕ) : Type 0 where
@@ -84,10 +69,6 @@ module _ (P : Problem) where
 
     own-index : index (allLeft P) n ≡ i
     own-index = index-digits (allLeft P) i in-block
-
-    -- nothing is left at index 0, and only there
-    pub none-left : (i ≡ 0) ↔ (sum (kAt P i) ≡ 0)
-    none-left = ((λ e. omega (arith, index-some (allLeft P) n long, own-index)), (λ e. sym own-index ∙ index-none (allLeft P) n e))
 
     rest : Rest (allLeft P) n (others P n)
     rest = record {

@@ -11,6 +11,7 @@ use Rattle.sequencing.specs.States.{allLeft, IsLeft}
 use Rattle.sequencing.specs.Entries.{index, digits, kAt, block, stored}
 use Rattle.sequencing.specs.Ties.{Precedes}
 use Rattle.sequencing.proofs.Counting.{one-cases}
+use Rattle.sequencing.proofs.Options.{stored-some}
 use Rattle.sequencing.proofs.AllJobs.{length-all, below-all}
 use Rattle.sequencing.proofs.Radix.{index-in, digits-index}
 use Rattle.sequencing.proofs.Entries.{left-digits}
@@ -64,10 +65,6 @@ module _ (f : ℕ → ℕ) (cs : List ℕ) where
 
 -- ---- its end
 
-stored-some : (r : Option ℕ) (c : ℕ) → stored r ≡ c → c < 2 ^ 64 - 1 → r ≡ some c
-stored-some none c e u = absurd (omega arith)
-stored-some (some d) c e u = ap some e
-
 module _ (P : Problem) where
   -- counts by their index
   module _ {m : List ℕ} (l : IsLeft P m) where
@@ -79,7 +76,7 @@ module _ (P : Problem) where
 
   module _ (s k c : ℕ) (h : Held (costAt P s) (allLeft P) (block P) k c) where
     held-some : c < 2 ^ 64 - 1 → countsCost P s (kAt P k) ≡ some c
-    held-some u = stored-some (countsCost P s (kAt P k)) c (h .reached u) u
+    held-some u = stored-some (countsCost P s (kAt P k)) (λ e. omega (arith, h .reached u)) ∙ ap some (h .reached u)
 
     cost-back : {m : List ℕ} → IsLeft P m → (d : ℕ) → countsCost P s m ≡ some d → costAt P s (index (allLeft P) m) ≡ d
     cost-back l d g = ap (λ m. stored (countsCost P s m)) (back l) ∙ ap stored g

@@ -100,10 +100,10 @@ impl Cost {
         match self {
             Cost::InSeconds(a) => match other {
                 Cost::InSeconds(b) => Cost::InSeconds(a.later(b)),
-                Cost::InPupilSeconds(_) => self,
+                Cost::InPupilSeconds(_) => Cost::InSeconds(a),
             },
             Cost::InPupilSeconds(a) => match other {
-                Cost::InSeconds(_) => self,
+                Cost::InSeconds(_) => Cost::InPupilSeconds(a),
                 Cost::InPupilSeconds(b) => Cost::InPupilSeconds(a.plus(b)),
             },
         }

@@ -2,7 +2,7 @@
 -- Assumes nothing.
 use mathlib.Core.Path.{ap, _∙_}
 use Rattle.refusal.specs.Answers.{answerNumber}
-use Rattle.best_order.proofs.Answers.{answer-fits}
+use Rattle.best_order.proofs.Answers.{planning-fits}
 use Rattle.best_order.proofs.Best.{planning-named}
 use borrow.Author.Needs.{needs}
 use Rattle.kippertarn.proofs.kippertarn_plan.Statement.{statement}
@@ -15,7 +15,7 @@ planned-at c = c .before .before .before .before
 answer-number-requires : tie.Need-answer-number-requires
 answer-number-requires c κs =
     let p = planned-at c in
-    rw (p .plan .ensures .answer-is) (answer-fits _ _ _)
+    rw (p .plan .ensures .answer-is) (planning-fits _ _ _)
 
 returns : tie.Need-returns
 returns c =

@@ -12,7 +12,7 @@ use Rattle.kippertarn.proofs.needed_entries.Tie as tie
 
 -- the cases but Table, which is 15, as the match numbers them
 abbrev others : List ℕ
-others = 0 ∷ 1 ∷ 2 ∷ 3 ∷ 4 ∷ 5 ∷ 6 ∷ 7 ∷ 8 ∷ 9 ∷ 10 ∷ 11 ∷ 12 ∷ 13 ∷ 14 ∷ 16 ∷ 17 ∷ []
+others = 0 ∷ 1 ∷ 2 ∷ 3 ∷ 4 ∷ 5 ∷ 6 ∷ 7 ∷ 8 ∷ 9 ∷ 10 ∷ 11 ∷ 12 ∷ 13 ∷ 14 ∷ 16 ∷ 17 ∷ 18 ∷ 19 ∷ []
 
 returns-2 : tie.Need-returns-2
 returns-2 c = ⊎-elim (λ e. sym e) (λ t. absurd (miss others 15 tt (rw (t .1) at (c .match .keys2)))) (carries (c .before .args .reason))

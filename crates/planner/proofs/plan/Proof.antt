@@ -6,7 +6,7 @@ use Rattle.queue.specs.Reading.{readQueue}
 use Rattle.queue_laws.proofs.Theorems.{accepted-valid}
 use Rattle.best_order.proofs.Endings.{message-refused, message-accepted}
 use Rattle.best_order.proofs.Best.{planning}
-use Rattle.planner.proofs.Ends.{ends-as, ends-refused}
+use Rattle.best_order.proofs.Ends.{ends-as, ends-refused}
 use borrow.Author.Needs.{needs}
 use Rattle.planner.proofs.plan.Statement.{statement}
 use Rattle.planner.proofs.plan.Tie as tie

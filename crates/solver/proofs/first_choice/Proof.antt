@@ -1,13 +1,13 @@
 -- `solver::first_choice` meets its contract: a look from the start's row, with all jobs left.
 -- Assumes nothing.
-use mathlib.Core.Path.{_≡_, refl, sym}
+use mathlib.Core.Path.{_≡_, sym}
 use Prim.Native.Nat.{_-_}
 use native.Mathlib.Omega.{arith}
 use lib.ListN.{length}
 use borrow.Author.Needs.{needs}
 use Rattle.layout.proofs.Prepared.{strides-long}
 use Rattle.solver.specs.Looking.{LooksAt}
-use Rattle.solver.proofs.Looking.{may-weigh}
+use Rattle.solver.proofs.Looking.{may-weigh, own-looks}
 use Rattle.solver.proofs.Start.{some-block, start-left, start-sums, first-choice}
 use Rattle.solver.proofs.first_choice.Statement.{statement}
 use Rattle.solver.proofs.first_choice.Tie as tie
@@ -36,19 +36,7 @@ looks : (c : tie.After-weight-left) → let a = start c .args in
     (record { index = a .layout .size .block - 1; jobs = a .layout .size .jobs; weight = c .weight-left .result })
 looks c =
     let (v, (p, (filled, room))) = start c .pre in
-    record {
-      valid = v;
-      prepared = p;
-      filled = filled;
-      room = room;
-      left-is = start-left v p;
-      sums-are = start-sums v p (c .weight-left .ensures);
-      strides-are = refl;
-      gaps-are = refl;
-      gaps-long = sized (start c) .1;
-      size-is = refl;
-      goal-is = refl;
-    }
+    own-looks v p (start-left v p) filled room (sized (start c) .1) (start-sums v p (c .weight-left .ensures))
 
 weight-left-requires : tie.Need-weight-left-requires
 weight-left-requires c κs = let e = entry (weighing c) in may-weigh (e .pre .0) (e .pre .1 .0) (start-left (e .pre .0) (e .pre .1 .0)) (sized e .0)

@@ -7,7 +7,7 @@ use borrow.Author.Needs.{needs}
 use Rattle.fields.specs.Lists.{filled}
 use Rattle.layout.proofs.Prepared.{counts-long}
 use Rattle.split_search.proofs.Rest.{within, sums-within}
-use Rattle.split_search.proofs.Searching.{Given}
+use Rattle.split_search.proofs.Searching.{Given, as-given}
 use Rattle.split_search.proofs.Shares.{first-share, part, second-share, first-order-is, second-order-is}
 use Rattle.split_search.proofs.split_orders.Statement.{statement}
 use Rattle.split_search.proofs.split_orders.Tie as tie
@@ -23,18 +23,7 @@ abbrev start : tie.After-others → tie.Start
 start c = entry (c .before)
 
 given : (c : tie.Start) → Given (c .args .queue) (c .args .layout) (c .args .table .now) (c .args .second)
-given c =
-    let (v, (p, (full, (room, (covering, second-in))))) = c .pre .0 in
-    record {
-      valid = v;
-      prepared = p;
-      filled = full;
-      room = room;
-      covering = covering;
-      second-in = second-in;
-      gaps-long = search needs;
-      weights-long = search needs;
-    }
+given c = as-given (c .pre .0) (search needs) (search needs)
 
 long : (c : tie.After-others) → length (c .others .result) ≡ 5
 long c = search needs

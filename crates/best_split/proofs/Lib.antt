@@ -1,0 +1,5 @@
+pub mod Plans
+pub mod Endings
+pub mod Answers
+pub mod Refusals
+pub mod Best

@@ -1,0 +1,4 @@
+pub mod Endings
+pub mod BestSplit
+pub mod Splitting
+pub mod Examples
