@@ -24,7 +24,7 @@ use Rattle.best_order.specs.Planning.{endingOn}
 
 -- what a split plan holds, for a queue with problem P and a second cutter whose start kind is s
 pub record BestSplitPlan (P : Problem) (s : ℕ) (plan : SplitPlan) : Type 0 where
-  -- it is within the bounds of a split plan, so that its bytes say all of it, and of the queue's goal
+  -- it is within the bounds of a split plan, and of the queue's goal
   pub bounded : Bounded plan
   pub goal : plan .goal ≡ P .goal
   -- n_1 .. n_N jobs of the kinds on the first cutter are the split taken: no counts cost less, and among equal costs n_1 is the smallest, then n_2, and on
