@@ -50,7 +50,7 @@ $(INSTALLED):
 # A line for each crate, as it is proved; rt keeps the rest of what it says in target/log.
 lib: $(INSTALLED) ## the archive, both headers and a pkg-config file, in target/lib and target/include
 	@command -v rt > /dev/null || { echo "The part is built with the Rattle toolchain: no command rt here"; exit 1; }
-	@echo "Building the part: its crates are proved, then compiled. From nothing that takes about two minutes on two cores."
+	@echo "Building the part: its crates are proved, then compiled. From nothing that takes two to three minutes on two cores."
 	@mkdir -p target/lib/pkgconfig && rm -f target/lib/made-of && $(MADE_OF) > target/lib/made-of.part
 	@sh tools/crate_lines.sh rt check splitter plan_reader $(ALSO)
 	@sh tools/crate_lines.sh rt staticlib kippertarn
