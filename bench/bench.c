@@ -63,8 +63,10 @@ struct size {
     unsigned kinds, jobs[5];
 };
 
-/* Chapter 5's gaps and pupils, with two kinds more. */
-static void make_queue(struct work *w, enum call call, const struct size *size, unsigned goal, unsigned shift)
+/* Chapter 5's gaps and pupils, with two kinds more; with nevers, a few successions are forbidden, which leaves many
+ * orders. */
+static void make_queue(struct work *w, enum call call, const struct size *size, unsigned goal, unsigned shift,
+                       int nevers)
 {
     static const unsigned rows[6][5] = { { 105, 130, 165, 120, 95 },
                                          { 96, 181, 228, 140, 75 },
@@ -75,6 +77,8 @@ static void make_queue(struct work *w, enum call call, const struct size *size, 
     static const unsigned pupils[5] = { 300, 150, 100, 220, 60 };
     struct kippertarn_queue_record q = { .kinds = size->kinds, .goal = goal, .shift = shift, .start = call == COLD_SPLIT ? 0 : 2 };
     memcpy(q.gap, rows, sizeof rows);
+    if (nevers)
+        q.gap[3][0] = q.gap[2][2] = q.gap[4][1] = q.gap[5][3] = KIPPERTARN_NEVER;
     memcpy(q.pupils, pupils, sizeof pupils);
     for (unsigned j = 0; j < size->kinds; j++) {
         q.first[j] = 1;
@@ -109,6 +113,7 @@ struct row {
     enum call call;
     const struct size *size;
     unsigned goal, shift;
+    int nevers;
     size_t entries;
     double part, by_hand; /* best milliseconds so far */
 };
@@ -116,10 +121,10 @@ struct row {
 /* Times both in turn, and keeps the best of each. */
 static void measure(struct work *w, struct row *r)
 {
-    make_queue(w, r->call, r->size, r->goal, r->shift);
+    make_queue(w, r->call, r->size, r->goal, r->shift, r->nevers);
     if (!same_answers(w)) {
-        printf("FAILED: the %s differ at %zu entries, goal %u, shift %u\n", r->call == PLAN ? "plans" : "splits", w->entries,
-               r->goal, r->shift);
+        printf("FAILED: the %s differ at %zu entries, goal %u, shift %u%s\n", r->call == PLAN ? "plans" : "splits",
+               w->entries, r->goal, r->shift, r->nevers ? ", with nevers" : "");
         exit(1);
     }
     r->entries = w->entries;
@@ -215,20 +220,32 @@ enum {
     PLANS = 2 * SIZES + 2,
     SPLITS = 2 * SIZES,
     COLD_SPLITS = 2 * SIZES,
-    ROWS = PLANS + SPLITS + COLD_SPLITS
+    NEVER_PLANS = 2 * SIZES,
+    NEVER_SPLITS = 2 * SIZES,
+    ROWS = PLANS + SPLITS + COLD_SPLITS + NEVER_PLANS + NEVER_SPLITS
 };
+
+static struct row row_of(enum call call, const struct size *size, unsigned goal, int nevers)
+{
+    return (struct row){ .call = call, .size = size, .goal = goal, .shift = 60, .nevers = nevers };
+}
 
 int main(void)
 {
     static struct work w;
     static struct row rows[ROWS];
     for (int i = 0; i < 2 * SIZES; i++) {
-        rows[i] = (struct row){ PLAN, &sizes[i % SIZES], i < SIZES ? 1 : 2, 60, 0, 0, 0 };
-        rows[PLANS + i] = (struct row){ SPLIT, &sizes[i % SIZES], i < SIZES ? 1 : 2, 60, 0, 0, 0 };
-        rows[PLANS + SPLITS + i] = (struct row){ COLD_SPLIT, &sizes[i % SIZES], i < SIZES ? 1 : 2, 60, 0, 0, 0 };
+        const struct size *size = &sizes[i % SIZES];
+        unsigned goal = i < SIZES ? 1 : 2;
+        rows[i] = row_of(PLAN, size, goal, 0);
+        rows[PLANS + i] = row_of(SPLIT, size, goal, 0);
+        rows[PLANS + SPLITS + i] = row_of(COLD_SPLIT, size, goal, 0);
+        rows[PLANS + SPLITS + COLD_SPLITS + i] = row_of(PLAN, size, goal, 1);
+        rows[PLANS + SPLITS + COLD_SPLITS + NEVER_PLANS + i] = row_of(SPLIT, size, goal, 1);
     }
-    rows[PLANS - 2] = (struct row){ PLAN, &sizes[0], 2, 5, 0, 0, 0 }; /* a split has no tight shift: it would be 19 */
-    rows[PLANS - 1] = (struct row){ PLAN, &sizes[SIZES - 1], 2, 6, 0, 0, 0 };
+    /* a split has no tight shift: it would be 19 */
+    rows[PLANS - 2] = (struct row){ .call = PLAN, .size = &sizes[0], .goal = 2, .shift = 5 };
+    rows[PLANS - 1] = (struct row){ .call = PLAN, .size = &sizes[SIZES - 1], .goal = 2, .shift = 6 };
     w.table = malloc(KIPPERTARN_ENTRIES_MOST * sizeof *w.table);
     if (!w.table)
         return 1;
@@ -241,7 +258,9 @@ int main(void)
     print_rows("Splitting over two cutters", rows + PLANS, SPLITS);
     print_growth(rows + PLANS + SIZES, SIZES);
     print_rows("Splitting over two cold cutters", rows + PLANS + SPLITS, COLD_SPLITS);
-    make_queue(&w, COLD_SPLIT, &sizes[SIZES - 1], 2, 60);
+    print_rows("Planning with forbidden successions", rows + PLANS + SPLITS + COLD_SPLITS, NEVER_PLANS);
+    print_rows("Splitting with forbidden successions", rows + PLANS + SPLITS + COLD_SPLITS + NEVER_PLANS, NEVER_SPLITS);
+    make_queue(&w, COLD_SPLIT, &sizes[SIZES - 1], 2, 60, 0);
     printf("Bytes of stack: check_queue %zu, check_plan %zu, plan %zu, split %zu\n", stack_used(&w, 0),
            stack_used(&w, 1), stack_used(&w, 2), stack_used(&w, 3));
     free(w.table);

@@ -36,13 +36,14 @@ static inline void plain_prepare(struct plain *w)
     }
 }
 
-/* The least from row L over the next states' values, and the smallest kind that reaches it. */
+/* The least from row L over the next states' values, and the smallest kind that reaches it; kinds that may not follow L
+ * are passed over. */
 static inline uint64_t plain_least(const struct plain *w, unsigned l, uint64_t pupils, const uint64_t *next,
                                    unsigned *best)
 {
     uint64_t least = UINT64_MAX;
     for (unsigned x = 0; x < w->q.kinds; x++)
-        if (next[x] != UINT64_MAX) {
+        if (next[x] != UINT64_MAX && w->q.gap[l][x] != KIPPERTARN_NEVER) {
             uint64_t value = pupils * w->q.gap[l][x] + next[x];
             if (value < least) {
                 least = value;
@@ -183,7 +184,7 @@ static inline int plain_before(const struct plain *w, const unsigned *k, const u
 }
 
 /* The least cost of all splits, and the first cutter's counts: one pass over all counts k, with a look from either
- * cutter's row for each. Every job may stand everywhere, so every state has a value. */
+ * cutter's row for each. UINT64_MAX where there is no split, as where a cutter has no order of its jobs. */
 static inline uint64_t plain_search(const struct plain *w, const uint64_t *table, unsigned second_start,
                                     unsigned *first)
 {
@@ -195,16 +196,20 @@ static inline uint64_t plain_search(const struct plain *w, const uint64_t *table
         uint64_t weight = w->q.goal == 1 ? 1 : pupils, second_weight = w->q.goal == 1 ? 1 : w->pupils - pupils,
                  one = left == 0 ? 0 : UINT64_MAX, two = left == w->q.jobs ? 0 : UINT64_MAX, cost;
         for (unsigned x = 0; x < w->q.kinds; x++) {
-            if (k[x] > 0) {
-                uint64_t value = weight * gap[x] + table[x * w->p + at - w->weight[x]];
-                one = value < one ? value : one;
+            if (k[x] > 0 && gap[x] != KIPPERTARN_NEVER) {
+                uint64_t rest = table[x * w->p + at - w->weight[x]], value = weight * gap[x] + rest;
+                one = rest != UINT64_MAX && value < one ? value : one;
             }
-            if (k[x] < w->all[x]) {
-                uint64_t value = second_weight * second_gap[x] + table[x * w->p + second_at - w->weight[x]];
-                two = value < two ? value : two;
+            if (k[x] < w->all[x] && second_gap[x] != KIPPERTARN_NEVER) {
+                uint64_t rest = table[x * w->p + second_at - w->weight[x]],
+                         value = second_weight * second_gap[x] + rest;
+                two = rest != UINT64_MAX && value < two ? value : two;
             }
         }
-        cost = w->q.goal == 2 ? one + two : one > two ? one : two;
+        if (one == UINT64_MAX || two == UINT64_MAX)
+            cost = UINT64_MAX;
+        else
+            cost = w->q.goal == 2 ? one + two : one > two ? one : two;
         if (cost < least || (cost == least && plain_before(w, k, first))) {
             least = cost;
             memcpy(first, k, sizeof k);
@@ -220,11 +225,14 @@ static inline uint64_t plain_split(const uint8_t *message, uint64_t length, uint
     struct plain w = { 0 };
     struct kippertarn_message_place to = { plan, plan_length, 0 };
     unsigned first[5] = { 0 }, second[5];
-    uint64_t refusal = (uint64_t)ref_read_queue(message, length, &w.q);
+    uint64_t cost, refusal = (uint64_t)ref_read_queue(message, length, &w.q);
     if (refusal || (refusal = plain_bench(&w.q, second_start)) || (refusal = plain_room(&w, entries, plan_length)))
         return refusal;
     plain_fill(&w, table);
-    plain_write_head(&w, 0x32, plain_search(&w, table, second_start, first), &to);
+    cost = plain_search(&w, table, second_start, first);
+    if (cost == UINT64_MAX)
+        return 17;
+    plain_write_head(&w, 0x32, cost, &to);
     for (unsigned j = 0; j < 5; j++)
         second[j] = w.all[j] - first[j];
     plain_write_jobs(&w, table, first, first, w.q.start, &to);

@@ -12,7 +12,7 @@
 struct kippertarn_queue_record {
     unsigned kinds; /* N */
     unsigned goal, shift, start;
-    /* gap[i][j - 1], from kind i (0 for the cold cutter) to kind j, in seconds */
+    /* gap[i][j - 1], from kind i (0 for the cold cutter) to kind j, in seconds, or KIPPERTARN_NEVER */
     unsigned gap[KIPPERTARN_KINDS_MOST + 1][KIPPERTARN_KINDS_MOST];
     /* w_j, a_j and b_j at j - 1 */
     unsigned pupils[KIPPERTARN_KINDS_MOST], first[KIPPERTARN_KINDS_MOST], last[KIPPERTARN_KINDS_MOST];
@@ -154,7 +154,7 @@ static inline const char *kippertarn_sentence(uint64_t r)
     case KIPPERTARN_GOAL: return "The goal is not 1 or 2.";
     case KIPPERTARN_SHIFT: return "The shift is over 60.";
     case KIPPERTARN_START: return "The start is over the number of kinds.";
-    case KIPPERTARN_GAP: return "A gap is over 65535 seconds.";
+    case KIPPERTARN_GAP: return "A gap is over 65536, which stands for never.";
     case KIPPERTARN_PUPILS: return "The pupils waiting for one job of a kind are over 1000.";
     case KIPPERTARN_PLACES: return "A kind's first allowed place is 0, or its last is before the first or over 60.";
     case KIPPERTARN_JOBS: return "The number of jobs is over 60.";
@@ -162,7 +162,7 @@ static inline const char *kippertarn_sentence(uint64_t r)
     case KIPPERTARN_LEFT_OVER: return "Bytes are left over after the last number.";
     case KIPPERTARN_BUFFER: return "The plan buffer is under 77 bytes.";
     case KIPPERTARN_TABLE: return "The table has fewer entries than the queue needs.";
-    case KIPPERTARN_NO_ORDER: return "No order of the jobs is permitted.";
+    case KIPPERTARN_NO_ORDER: return "No order of the jobs is permitted, or for two cutters no split of them.";
     case KIPPERTARN_JOB: return "A job of the plan is 0, over the number of jobs, or at an earlier place too.";
     case KIPPERTARN_UNCOVERED: return "The shift plus 1 is under the number of jobs, or a place is barred to a kind.";
     case KIPPERTARN_SECOND_START: return "The second cutter's start is over the number of kinds.";

@@ -31,8 +31,8 @@ extern "C" {
 #endif
 
 /* The version of this header. kippertarn_version() answers that of the archive: they are to be the same. */
-#define KIPPERTARN_VERSION "1.3.0"
-#define KIPPERTARN_VERSION_NUMBER 1003000 /* 1000000 * major + 1000 * minor + patch */
+#define KIPPERTARN_VERSION "1.4.0"
+#define KIPPERTARN_VERSION_NUMBER 1004000 /* 1000000 * major + 1000 * minor + patch */
 
 #define KIPPERTARN_QUEUE_BYTES 178 /* the longest queue message that is accepted */
 #define KIPPERTARN_PLAN_BYTES 77   /* the longest plan message, and the least plan buffer that may be lent */
@@ -50,6 +50,10 @@ extern "C" {
 #define KIPPERTARN_GAP_MOST 65535   /* gap(i, j), in seconds */
 #define KIPPERTARN_PUPILS_MOST 1000 /* w_j */
 #define KIPPERTARN_PLACE_MOST 60    /* b_j */
+
+/* In place of a gap's seconds: never. A job of kind j is then not to be cut right after one of kind i, nor, in row 0,
+ * first on a cold cutter. */
+#define KIPPERTARN_NEVER 65536
 
 /* N x P, the table entries that a queue of n kinds with k1 to k5 jobs each needs: P is the product of all (K_j + 1).
  * Write 0 for the jobs of kinds past n. A constant where its arguments are, so that it can size an array. */
@@ -79,7 +83,7 @@ enum kippertarn_refusal {
     KIPPERTARN_GOAL = 6,       /* goal not 1 or 2 */
     KIPPERTARN_SHIFT = 7,      /* shift over 60 */
     KIPPERTARN_START = 8,      /* start over N */
-    KIPPERTARN_GAP = 9,        /* a gap over 65535 */
+    KIPPERTARN_GAP = 9,        /* a gap over 65536 */
     KIPPERTARN_PUPILS = 10,    /* pupils over 1000 */
     KIPPERTARN_PLACES = 11,    /* allowed places: a_j is 0, b_j < a_j, or b_j over 60 */
     KIPPERTARN_JOBS = 12,      /* T over 60 */
@@ -88,7 +92,7 @@ enum kippertarn_refusal {
     KIPPERTARN_LEFT_OVER = 14, /* bytes left over after the last number */
     KIPPERTARN_BUFFER = 15,    /* plan buffer under 77 bytes */
     KIPPERTARN_TABLE = 16,     /* table under N x P entries; V is N x P */
-    KIPPERTARN_NO_ORDER = 17,  /* no permitted order */
+    KIPPERTARN_NO_ORDER = 17,  /* no permitted order; for two cutters no split with one on each */
     KIPPERTARN_JOB = 18,       /* a job in a plan 0, over T, or at an earlier place */
     KIPPERTARN_UNCOVERED = 19, /* for two cutters: shift + 1 under T, or a kind's allowed places do not cover 1 to T */
     KIPPERTARN_SECOND_START = 20 /* the second start over N */
@@ -101,9 +105,10 @@ uint64_t kippertarn_check_queue(const uint8_t *message, uint64_t length);
 uint64_t kippertarn_check_plan(const uint8_t *message, uint64_t length);
 
 /* Plans a queue: R is 0 and the plan message stands in the plan buffer, V bytes long; or R is the first of the queue
- * reader's refusal, 15, 16 and 17 that applies. The table, of `entries` numbers, need not be cleared. After R 0 or 17
- * entry (L - 1) * P + k_1 + (K_1 + 1) * (k_2 + (K_2 + 1) * (k_3 + ..)) holds the value of state (L; k) if the state is
- * kept, else KIPPERTARN_NOT_KEPT.
+ * reader's refusal, 15, 16 and 17 that applies. An order is permitted when each job may stand at its place and no job
+ * follows another, or the start, where the gap is never. The table, of `entries` numbers, need not be cleared. After
+ * R 0 or 17 entry (L - 1) * P + k_1 + (K_1 + 1) * (k_2 + (K_2 + 1) * (k_3 + ..)) holds the value of state (L; k) if the
+ * state is kept, which asks for a permitted way on from L, else KIPPERTARN_NOT_KEPT.
  *
  * To ask for the table's size, lend none: with a null table of 0 entries and a plan buffer of 77 bytes an accepted
  * message is answered 16, V being N x P (at least 1), and nothing is written. */
@@ -112,10 +117,12 @@ uint64_t kippertarn_plan(const uint8_t *message, uint64_t length, uint64_t *tabl
 
 /* Splits a queue over two cutters, of which the message's start is the first's and `second_start` the second's (0 for a
  * cold cutter, else the kind it cut last): R is 0 and the split plan stands in the plan buffer, V bytes long; or R is
- * the first of the queue reader's refusal, 19, 20, 15 and 16 that applies. No other split of the jobs, in any order on
- * either cutter, costs less. Table and plan buffer are lent as to kippertarn_plan, the table has the same size, and
- * after R 0 it holds what kippertarn_plan leaves in it for the same message. Where 19 and 20 do not apply, a table of 0
- * entries asks for its size as there. */
+ * the first of the queue reader's refusal, 19, 20, 15, 16 and 17 that applies. On neither cutter does a job follow
+ * another, or the cutter's start, where the gap is never; 17 is for queues that no split divides so. No other such
+ * split of the jobs, in any order on either cutter, costs less. Table and plan buffer are lent as to kippertarn_plan,
+ * the table has the same size, and after R 0 or 17 it holds what kippertarn_plan leaves in it for the same message,
+ * which may have a split where kippertarn_plan answers 17. Where 19 and 20 do not apply, a table of 0 entries asks for
+ * its size as there. */
 uint64_t kippertarn_split(const uint8_t *message, uint64_t length, uint32_t second_start, uint64_t *table,
                           uint64_t entries, uint8_t *plan, uint64_t plan_length);
 

@@ -1,5 +1,6 @@
 """The picture of a planned queue: hand-in order above the best order, as bars along one time line, as text and as SVG;
-and the places of a queue that is split over two cutters.
+and the places of a queue that is split over two cutters. Where the hand-in order has a forbidden succession it has no
+times, and the best order is drawn alone.
 
 Nothing is planned here: the best order and the split are the part's answers, and finishes and costs are document 01's
 sums over a queue and an order. A bar reaches from the finish before a job to the job's own. A convenience, not proved.
@@ -11,10 +12,22 @@ import textwrap
 MARKS = "#=-+~"                                                     # of kinds 1 to 5, behind a kind's number
 PAINT = (34, 33, 32, 35, 31)                                        # the terminal's colours
 FILLS = ("#9ecae1", "#fdbe6f", "#a5d99c", "#d9b3e6", "#f2a59b")     # the SVG's, each light enough for black letters
+NEVER = 65536                                                       # a gap that is no seconds: it is forbidden
+
+
+def forbidden(queue, order):
+    """The first forbidden succession of an order, in words, or nothing."""
+    before = queue.start
+    for job in order:
+        kind = queue.jobs[job - 1]
+        if queue.gaps[before][kind - 1] == NEVER:
+            return "kind %d %s is never" % (kind, "after kind %d" % before if before else "on a cold cutter")
+        before = kind
+    return ""
 
 
 def finishes(queue, order):
-    """The finish at each place of an order."""
+    """The finish at each place of an order without a forbidden succession."""
     ends, before, now = [], queue.start, 0
     for job in order:
         kind = queue.jobs[job - 1]
@@ -54,13 +67,14 @@ def hand_in(queue):
 
 
 def both(queue, plan):
-    """The bars of both orders, and the last finish of the two."""
-    rows = [bars(queue, hand_in(queue)), bars(queue, plan.order)]
-    return rows, max([end for row in rows for *_, end in row], default=0)
+    """The bars of the hand-in order, if it has times, and of the best, each with its name, and the last finish."""
+    orders = [("hand-in", hand_in(queue)), ("best", plan.order)]
+    rows = [(name, bars(queue, order)) for name, order in orders[bool(forbidden(queue, hand_in(queue))):]]
+    return rows, max([end for _, row in rows for *_, end in row], default=0)
 
 
 def not_permitted(queue):
-    """Why the hand-in order is not permitted, or nothing. It moves no job, so only allowed places can forbid it."""
+    """Why jobs may not stand as handed in, or nothing. None is moved, so only allowed places can forbid it."""
     for job, kind in enumerate(queue.jobs, 1):
         first, last = queue.places[kind - 1]
         if not first <= job <= last:
@@ -82,6 +96,9 @@ def saved(queue, without, best):
 
 def sentences(queue, plan):
     """What is said of the hand-in order, why it is not permitted, and what is said of the best order."""
+    never = forbidden(queue, hand_in(queue))
+    if never:
+        return "Hand-in order: not permitted (%s)" % never, "", "Best order: " + measured(queue, plan.cost)
     without, best, why = cost(queue, hand_in(queue)), plan.cost, not_permitted(queue)
     change = "%d%s %s than by hand-in" % (abs(without - best), " s" * (queue.goal == 1),
                                           "less" if best <= without else "more")
@@ -124,13 +141,15 @@ def table(queue, plan, width):
 
 
 def split_table(queue, second, split, alone, width):
-    """The queue in a line, then the places of each cutter, and what is saved beside the cost of one alone."""
+    """The queue in a line, then the places of each cutter, and what is saved beside the cost of one alone, if any."""
     lines = wrapped("%s, second start %d" % (heading(queue), second), width)
     for name, share in zip(("First", "Second"), shares(queue, second, split)):
         said = measured(queue, cost(*share)) if share[1] else "no jobs"
         lines += [""] + wrapped("%s cutter: %s" % (name, said), width) + places(*share, width)
-    lines += [""] + wrapped("One cutter alone: " + measured(queue, alone), width)
-    return lines + wrapped("Two cutters: %s, %s" % (measured(queue, split.cost), saved(queue, alone, split.cost)), width)
+    one, two = "no order is permitted", measured(queue, split.cost)
+    if alone is not None:
+        one, two = measured(queue, alone), "%s, %s" % (two, saved(queue, alone, split.cost))
+    return lines + [""] + wrapped("One cutter alone: " + one, width) + wrapped("Two cutters: " + two, width)
 
 
 def cells(row, total, columns):
@@ -167,11 +186,11 @@ def as_text(queue, plan, width=80, coloured=False):
     if not total:
         return lines + wrapped(no_time_line(queue), width)
     room = width - len("hand-in ")
-    shortest = min(end - begin for row in rows for _, _, begin, end in row if end > begin)
+    shortest = min(end - begin for _, row in rows for _, _, begin, end in row if end > begin)
     folds = -(-total // (shortest * room))      # so many lines, and the shortest bar has a column
     columns = room * (folds if folds <= 12 else 1)
     strips = []
-    for name, row in zip(("hand-in", "best"), rows):
+    for name, row in rows:
         numbers, whole = labelled([(begin * columns // total, str(job)) for job, _, begin, _ in row], room)
         made, unseen = cells(row, total, columns)
         strips += [("job", [(0, sign) for sign in numbers])] * whole + [(name, made)]
@@ -224,18 +243,19 @@ def svg_moves(rows, scale, top):
 
 
 def svg_time(rows, total, top, wide):
-    """Both orders above their time line, which is 2 * HIGH + APART below the top."""
+    """How far the time line is below the top, and what is drawn: both orders, or the best alone, above it."""
     def scale(time):
         return round(EDGE + time * wide / total, 2)
 
-    below, size = top + HIGH + APART, 14 if len(rows[0]) <= 24 else 11
-    drawn = svg_moves(rows, scale, top + HIGH)
-    drawn += svg_bars(rows[0], scale, top, size) + svg_bars(rows[1], scale, below, size)
+    below, size = top + (HIGH + APART) * (len(rows) - 1), 14 if len(rows[0]) <= 24 else 11
+    drawn = svg_moves(rows, scale, top + HIGH) if len(rows) == 2 else []
+    for at, row in zip((top, below)[-len(rows):], rows):
+        drawn += svg_bars(row, scale, at, size)
     for tick in ticks(total, wide, 70):
         anchor = "start" if tick == 0 else "end" if scale(tick) > wide - EDGE else "middle"
         drawn.append('<path d="M%g %dv6" stroke="#444"/>' % (scale(tick), below + HIGH))
         drawn.append(words(scale(tick), below + HIGH + 19, "%d s" % tick, 12, ' text-anchor="%s"' % anchor))
-    return drawn
+    return below + HIGH - top, drawn
 
 
 def svg_legend(queue, y, wide):
@@ -258,8 +278,9 @@ def as_svg(queue, plan):
         y += 21
         drawn.append(words(EDGE, y, why, 14, ' fill="#b00"'))
     if total:
-        drawn += svg_time(rows, total, y + 14, wide)
-        y += 14 + 2 * HIGH + APART + 48
+        high, bars_drawn = svg_time([row for _, row in rows], total, y + 14, wide)
+        drawn += bars_drawn
+        y += 14 + high + 48
         drawn += svg_legend(queue, y + 28, wide)
     else:
         drawn.append(words(EDGE, y + 24, no_time_line(queue)))

@@ -17,7 +17,7 @@ of these, in any order; `#` starts a comment:
     goal 1            # 1 last finish, 2 total waiting
     shift 1
     start 0           # 0 for a cold cutter, else the kind cut last
-    gaps 10 10        # rows 0 to N, in order, each on its own line: seconds to kinds 1 to N
+    gaps 10 10        # rows 0 to N, in order, each on its own line: seconds to kinds 1 to N, or never
     gaps 20 50
     gaps 40 30
     pupils 3 1        # waiting for one job of kinds 1 to N
@@ -50,6 +50,7 @@ Plan = collections.namedtuple("Plan", "goal cost kept order")
 Split = collections.namedtuple("Split", "goal cost first second")
 
 NAMES = ("goal", "shift", "start", "gaps", "pupils", "places", "jobs")
+NEVER = picture.NEVER
 
 
 class Unreadable(Exception):
@@ -108,10 +109,14 @@ def read_text(text):
             raise Unreadable("line %d: one of %s is expected, not %.30s" % (number, ", ".join(NAMES), name))
         if name in said and name != "gaps":
             raise Unreadable("line %d: %s has line %d already" % (number, name, said[name][0]))
+        nevers = rest.count("never") if name == "gaps" else 0
         try:
-            values = [int(word) for part in rest for word in (part.split("-") if name == "places" else [part])]
+            values = [NEVER if nevers and word == "never" else int(word)
+                      for part in rest for word in (part.split("-") if name == "places" else [part])]
         except ValueError:
             raise Unreadable("line %d: numbers are expected after %s, not %.30s" % (number, name, " ".join(rest)))
+        if name == "gaps" and values.count(NEVER) > nevers:
+            raise Unreadable("line %d: %d is how a message says never: write never" % (number, NEVER))
         if any(value < 0 for value in values):
             raise Unreadable("line %d: a number after %s is negative" % (number, name))
         if name in ("goal", "shift", "start") and len(values) != 1:
@@ -184,7 +189,7 @@ def show(message):
     if message[:2] == b"QS":
         queue = read_queue(message)
         lines = ["goal %d" % queue.goal, "shift %d" % queue.shift, "start %d" % queue.start]
-        lines += ["gaps " + joined(row) for row in queue.gaps]
+        lines += ["gaps " + joined("never" if gap == NEVER else gap for gap in row) for row in queue.gaps]
         lines += ["pupils " + joined(queue.pupils), "places " + joined("%d-%d" % pair for pair in queue.places)]
         lines += ["jobs " + joined(queue.jobs)]
     elif message[:2] == b"QP":
@@ -279,6 +284,8 @@ def answered(given, entries, second=None):
 def plan_of(given, entries):
     """A queue and the part's plan for it."""
     queue, plan = answered(given, entries)
+    if picture.forbidden(queue, plan.order):
+        raise Unreadable("the plan's order is forbidden: " + picture.forbidden(queue, plan.order))
     if picture.cost(queue, plan.order) != plan.cost:
         raise Unreadable("the plan's cost is %d, and its order's %d" % (plan.cost, picture.cost(queue, plan.order)))
     return queue, plan
@@ -289,13 +296,24 @@ def split_of(given, entries, second):
     queue, split = answered(given, entries, second)
     if sorted(split.first + split.second) != picture.hand_in(queue):
         raise Unreadable("the split plan's jobs are not the queue's")
+    for share in picture.shares(queue, second, split):
+        if picture.forbidden(*share):
+            raise Unreadable("an order of the split plan is forbidden: " + picture.forbidden(*share))
     if picture.split_cost(queue, second, split) != split.cost:
         raise Unreadable("the split plan's cost is %d, and its orders' %d"
                          % (split.cost, picture.split_cost(queue, second, split)))
     return queue, split
 
 
+def alone_of(given, entries):
+    """The cost of one cutter alone, or None where it has no order: a queue with a split gets no other refusal."""
+    if ask(queue_message(given)[0], entries)[0] == 17:
+        return None
+    return plan_of(given, entries)[1].cost
+
+
 CASE_A = bytes.fromhex("51530102010100 0A0A 1432 281E 0301 013C 013C 03 010201")
+A_NEVER = bytes.fromhex("51530102010100 0A0A 1432 8080041E 0301 013C 013C 03 010201")
 NO_JOBS = bytes.fromhex("51530101013C00 FFFF03 00 8001 01 3C 00")
 PLAN_B = bytes.fromhex("51500102C801 07 03 010302")
 SPLIT_A = bytes.fromhex("51320101 1E 01 02 02 0103")
@@ -309,6 +327,9 @@ def self_test():
               show(SPLIT_A) == "split goal 1\ncost 30\nfirst 2\nsecond 1 3\n",
               show(NONE_SPLIT) == "split goal 2\ncost 0\nfirst\nsecond\n",
               pack("gaps 65535 # row 0\ngaps 0\npupils 128\n")[0] == NO_JOBS,
+              pack(show(CASE_A).replace("gaps 40", "gaps never"))[0] == A_NEVER,
+              pack(show(A_NEVER))[0] == A_NEVER and "\ngaps never 30\n" in show(A_NEVER),
+              show(A_NEVER.replace(b"\x80\x80\4", b"\x81\x80\4")).count("gaps 65537 30") == 1,
               pack(__doc__.split("comment:\n")[1].split("N is")[0])[0] == CASE_A]
     examples = sorted((ROOT / "examples").glob("*.queue"))
     checks += [pack(show(path.read_bytes()))[0] == path.read_bytes() for path in examples]
@@ -316,7 +337,8 @@ def self_test():
                 SPLIT_A[:-1], SPLIT_A + b"\1", b"Q2\2\1\0\0\0"]:
         checks.append(refused(show, bad))
     for bad in ["goal", "goal 1 2", "goal x", "gaol 1", "goal 1\ngoal 1", "shift -1", "pupils 1",
-                "gaps 1\ngaps 2\npupils 1\nplaces 1"]:
+                "gaps 1\ngaps 2\npupils 1\nplaces 1", "gaps 65536\ngaps 2\npupils 1", "gaps 1\ngaps Never\npupils 1",
+                "gaps 1\ngaps 2\npupils never", "gaps 1\ngaps 2\npupils 1\njobs never"]:
         checks.append(refused(pack, bad))
     if not all(checks) or len(examples) < 8:
         print("FAILED queue_text: check %d of %d" % (checks.index(False) + 1 if False in checks else 0, len(checks)))
@@ -363,7 +385,7 @@ def act(name, given, out, entries, second):
         return write_file(out, show(given).encode())
     if name == "split":
         queue, split = split_of(given, entries, second)
-        alone = plan_of(given, entries)[1].cost
+        alone = alone_of(given, entries)
         return print("\n".join(picture.split_table(queue, second, split, alone, width)))
     queue, plan = plan_of(given, entries)
     if name == "draw":

@@ -1,4 +1,5 @@
-/* Document 01's small queues A to I, byte for byte, the example files that hold them, and each refusal by hand. */
+/* Document 01's small queues A to I, byte for byte, the example files that hold them, A with forbidden successions, and
+ * each refusal by hand. */
 #include "lent.h"
 
 static const uint8_t queue_a[] = { 0x51, 0x53, 0x01, 0x02, 0x01, 0x01, 0x00, 0x0A, 0x0A, 0x14, 0x32, 0x28,
@@ -7,6 +8,12 @@ static const uint8_t plan_a[] = { 0x51, 0x50, 0x01, 0x01, 0x46, 0x07, 0x03, 0x02
 static const uint8_t plan_b[] = { 0x51, 0x50, 0x01, 0x02, 0xC8, 0x01, 0x07, 0x03, 0x01, 0x03, 0x02 };
 #define NONE KIPPERTARN_NOT_KEPT
 static const uint64_t table_a[] = { 0, 20, NONE, 50, 70, NONE, 0, 40, 60, NONE, NONE, NONE }; /* worked out by hand */
+
+/* A with never from kind 2 to kind 1: of its three orders 1 3 2 is left. */
+static const uint8_t queue_never[] = { 0x51, 0x53, 0x01, 0x02, 0x01, 0x01, 0x00, 0x0A, 0x0A, 0x14, 0x32, 0x80, 0x80,
+                                       0x04, 0x1E, 0x03, 0x01, 0x01, 0x3C, 0x01, 0x3C, 0x03, 0x01, 0x02, 0x01 };
+static const uint8_t plan_never[] = { 0x51, 0x50, 0x01, 0x01, 0x50, 0x05, 0x03, 0x01, 0x03, 0x02 };
+static const uint64_t table_never[] = { 0, 20, NONE, 50, 70, NONE, 0, NONE, NONE, NONE, NONE, NONE };
 
 /* Where A's numbers stand. */
 enum { KINDS = 3, GOAL, SHIFT, START, GAPS, PUPILS = 13, A_1 = 15, A_2 = 17, JOBS = 19 };
@@ -94,6 +101,96 @@ static void small_queues(void)
     expect_plan("case-h", &h, 8, plan_h, sizeof plan_h);
 }
 
+/* A with never for some of its gaps, which are numbered from gap (0, 1) on: 0 0 / 1 1 / 2 2. */
+enum { COLD_1, COLD_2, FROM_1_TO_1, FROM_1_TO_2, FROM_2_TO_1, FROM_2_TO_2 };
+#define NEVER(gap) (1u << (gap))
+
+static struct message a_without(unsigned goal, unsigned start, const char *pupils, unsigned nevers)
+{
+    struct kippertarn_queue_record q = {
+        .kinds = 2, .goal = goal, .shift = 1, .start = start, .gap = { { 10, 10 }, { 20, 50 }, { 40, 30 } },
+        .pupils = { (unsigned)(pupils[0] - '0'), (unsigned)(pupils[1] - '0') }, .first = { 1, 1 }, .last = { 60, 60 },
+        .jobs = 3, .kind = { 1, 2, 1 }
+    };
+    struct message m = { { 0 }, 0 };
+    for (unsigned gap = 0; gap < 6; gap++)
+        if (nevers & NEVER(gap))
+            q.gap[gap / 2][gap % 2] = KIPPERTARN_NEVER;
+    m.length = kippertarn_write_queue_record(&q, m.bytes, sizeof m.bytes);
+    return m;
+}
+
+/* Plans it, and holds it to its table's kept entries, a bit for each, and to a cost and an order; no order is 17. */
+static void expect_order(const char *what, struct message m, unsigned kept, uint64_t cost, const char *order)
+{
+    struct ref_answer a = compare_plan(what, m.bytes, m.length, 12, 77);
+    struct kippertarn_plan_record plan = { 0 };
+    uint64_t table[12], answer;
+    uint8_t bytes[KIPPERTARN_PLAN_BYTES];
+    unsigned bits = 0, count = 0;
+    answer = kippertarn_plan(m.bytes, m.length, table, 12, bytes, sizeof bytes);
+    expect(what, answer, a.answer);
+    for (unsigned i = 0; i < 12; i++)
+        if (table[i] != NONE) {
+            bits |= 1u << i;
+            count++;
+        }
+    expect(what, bits, kept);
+    if (!order) {
+        expect(what, answer, 17);
+        return;
+    }
+    expect(what, (uint64_t)kippertarn_read_plan_record(&plan, bytes, KIPPERTARN_V(answer)), 1);
+    expect(what, plan.cost, cost);
+    expect(what, plan.kept, count);
+    for (unsigned i = 0; i < 3; i++)
+        expect(what, plan.job[i], (uint64_t)(order[i] - '0'));
+}
+
+/* Worked out by hand. A's orders 1 2 3, 2 1 3 and 1 3 2 have the kinds 1 2 1, 2 1 1 and 1 1 2; its kept entries are 0,
+ * 1, 3, 4, 6, 7 and 8. A never takes away those whose states have no way on without it; what comes before a state takes
+ * none away. */
+static void nevers(void)
+{
+    enum { ALL = 0x1DB }; /* of A's entries */
+    unsigned diagonal = NEVER(FROM_1_TO_1) | NEVER(FROM_2_TO_2), row_0 = NEVER(COLD_1) | NEVER(COLD_2);
+    struct message m = a_without(1, 0, "31", NEVER(FROM_2_TO_1));
+    uint64_t table[12];
+    uint8_t plan[KIPPERTARN_PLAN_BYTES];
+    expect("A without 1 after 2", m.length == sizeof queue_never && memcmp(m.bytes, queue_never, m.length) == 0, 1);
+    expect("A without 1 after 2", kippertarn_plan(m.bytes, m.length, table, 12, plan, sizeof plan),
+           256 * sizeof plan_never);
+    expect("A without 1 after 2", memcmp(plan, plan_never, sizeof plan_never) == 0, 1);
+    expect("A without 1 after 2", memcmp(table, table_never, sizeof table_never) == 0, 1);
+    expect_order("A without 1 after 2", m, 0x05B, 80, "132");
+    expect_order("A without a never", a_without(1, 0, "31", 0), ALL, 70, "213");
+    /* the most seconds are none the less seconds: the same order, and all states kept */
+    memcpy(m.bytes + GAPS + 4, (const uint8_t[]){ 0xFF, 0xFF, 0x03 }, 3);
+    expect_order("A with 65535 from 2 to 1", m, ALL, 80, "132");
+    /* 1 2 3 costs 100 and 1 3 2 costs 80; a state's own start is not looked at */
+    expect_order("A without 2 first", a_without(1, 0, "31", NEVER(COLD_2)), ALL, 80, "132");
+    expect_order("A without 1 first", a_without(1, 0, "31", NEVER(COLD_1)), ALL, 70, "213");
+    /* with row 0 all never a cold cutter has no order; after 2 the costs are 130, 90 and 110, and row 0 is not read */
+    expect_order("A without any first", a_without(1, 0, "31", row_0), ALL, 0, NULL);
+    expect_order("A without any first, after 2", a_without(1, 2, "31", row_0), ALL, 90, "213");
+    /* the start's row is looked at for the first job: after 2 without 2 again 130 and 110 are left */
+    expect_order("A after 2, without 2 after 2", a_without(1, 2, "31", NEVER(FROM_2_TO_2)), ALL, 110, "132");
+    /* no kind twice in a row: 1 2 3 is left, and entries 1 and 8, which need 1 after 1, are gone */
+    expect_order("A without repeats", a_without(1, 0, "31", diagonal), 0x0D9, 100, "123");
+    /* with no pupils every order costs 0, and a never is no less a never */
+    expect_order("B without pupils", a_without(2, 0, "00", 0), ALL, 0, "132");
+    expect_order("B without pupils, without repeats", a_without(2, 0, "00", diagonal), 0x0D9, 0, "123");
+    expect_order("B without pupils, any first", a_without(2, 0, "00", row_0), ALL, 0, NULL);
+    /* 1 and 2 never side by side: every job may stand somewhere, and no order is left. Entries 0, 1 and 6 are kept. */
+    expect_order("A without changes", a_without(1, 0, "31", NEVER(FROM_1_TO_2) | NEVER(FROM_2_TO_1)), 0x043, 0, NULL);
+    expect_order("A without anything", a_without(1, 1, "31", 0x3F), 0x041, 0, NULL);
+    /* no jobs have the empty order, whatever is forbidden */
+    m = a_without(1, 0, "31", 0x3F);
+    m.bytes[m.length - 4] = 0;
+    m.length -= 3;
+    expect("no jobs, all never", compare_plan("no jobs, all never", m.bytes, m.length, 2, 77).answer, 256 * 7);
+}
+
 static void expect_refusal(const char *what, struct message m, int refusal)
 {
     int as_queue, as_plan;
@@ -116,7 +213,10 @@ static void refusals(void)
     expect_refusal("I: 00 is 0", WITH(GAPS, 0x00), 0);
     expect_refusal("I: 80 00", WITH(GAPS, 0x80, 0x00), 3);
     expect_refusal("I: FF FF 03", WITH(GAPS, 0xFF, 0xFF, 0x03), 0);
-    expect_refusal("I: 80 80 04 as a gap", WITH(GAPS, 0x80, 0x80, 0x04), 9);
+    expect_refusal("I: 80 80 04 as a gap is never", WITH(GAPS, 0x80, 0x80, 0x04), 0);
+    expect_refusal("81 80 04 as a gap", WITH(GAPS, 0x81, 0x80, 0x04), 9);
+    expect_refusal("81 80 04 as the last gap", WITH(PUPILS - 1, 0x81, 0x80, 0x04), 9);
+    expect_refusal("80 80 04 as pupils", WITH(PUPILS, 0x80, 0x80, 0x04), 10);
     expect_refusal("80 80 00", WITH(GAPS, 0x80, 0x80, 0x00), 3);
     expect_refusal("80 80 80", WITH(GAPS, 0x80, 0x80, 0x80), 3);
     expect_refusal("I: 81 at the end", (struct message){ { 0x51, 0x53, 0x81 }, 3 }, 2);
@@ -168,7 +268,7 @@ static void longest(void)
         q.pupils[j] = 1000;
         q.first[j] = q.last[j] = 60;
         for (unsigned i = 0; i <= 5; i++)
-            q.gap[i][j] = 65535;
+            q.gap[i][j] = i == j ? KIPPERTARN_NEVER : KIPPERTARN_GAP_MOST;
     }
     for (unsigned i = 0; i < 60; i++) {
         q.kind[i] = 1 + i % 5;
@@ -212,7 +312,8 @@ static void limits(void)
 {
     expect_limit("kinds", KINDS, KIPPERTARN_KINDS_MOST, KIPPERTARN_KINDS);
     expect_limit("shift", SHIFT, KIPPERTARN_SHIFT_MOST, KIPPERTARN_SHIFT);
-    expect_limit("gap", GAPS, KIPPERTARN_GAP_MOST, KIPPERTARN_GAP);
+    expect_limit("gap", GAPS, KIPPERTARN_NEVER, KIPPERTARN_GAP);
+    expect("never is the next to the most seconds", KIPPERTARN_NEVER, KIPPERTARN_GAP_MOST + 1);
     expect_limit("pupils", PUPILS, KIPPERTARN_PUPILS_MOST, KIPPERTARN_PUPILS);
     expect_limit("last place", A_1 + 1, KIPPERTARN_PLACE_MOST, KIPPERTARN_PLACES);
     expect_limit("jobs", JOBS, KIPPERTARN_JOBS_MOST, KIPPERTARN_JOBS);
@@ -233,9 +334,10 @@ int main(void)
 {
     open_rooms();
     small_queues();
+    nevers();
     refusals();
     longest();
     limits();
     version();
-    return summary("cases", "01's queues A to I and the refusals by hand");
+    return summary("cases", "01's queues A to I, forbidden successions and the refusals by hand");
 }

@@ -21,7 +21,8 @@ expect A "cost 70
 order 2 1 3" "$plan" examples/case-a.queue
 expect B "cost 200
 order 1 3 2" "$plan" examples/case-b.queue
-expect E "refused 17: No order of the jobs is permitted." "$plan" examples/case-e.queue
+none="refused 17: No order of the jobs is permitted, or for two cutters no split of them."
+expect E "$none" "$plan" examples/case-e.queue
 expect G "cost 0
 order" "$plan" examples/case-g.queue
 expect "chapter 5" "cost 1323
@@ -48,4 +49,19 @@ expect "no second start" "" "$split" examples/case-a.queue 2> /dev/null
 python3 tools/queue_text.py pack examples/two-cutters.txt | expect "two cutters" "cost 730
 first 1 4 6 3 7 10
 second 9 11 2 5 8 12" "$split" 0
-echo "example: 13 outputs agree"
+
+# Never card after acrylic, by hand: with acrylic last the changes of kind cost least, 3 x 60 + 190 + 120 + 240 + 2 x 150.
+# On two cutters the cold one cannot begin with acrylic, and all acrylic by itself comes to 250 + 2 x 150.
+python3 tools/queue_text.py pack examples/card-after-acrylic.txt | expect "never card after acrylic" "cost 1030
+order 2 5 7 3 6 1 4 8" "$plan"
+python3 tools/queue_text.py pack examples/card-after-acrylic.txt | expect "never, two cutters" "cost 550
+first 1 4 8
+second 2 5 7 3 6" "$split" 0
+# A, where 1 and 2 are never side by side, and 1 never follows 1: no order for one cutter; for two, with job 2 on one, none
+# for jobs 1 and 3 on the other.
+like_a 's/shift 1/shift 2/;s/gaps 20 50/gaps never never/;s/gaps 40/gaps never/' | expect "never, no split" "$none" "$split" 0
+like_a 's/gaps 20 50/gaps 20 never/;s/gaps 40/gaps never/' | expect "never, no order" "$none" "$plan"
+like_a 's/shift 1/shift 2/;s/gaps 20 50/gaps 20 never/;s/gaps 40/gaps never/' | expect "never, a split and no order" "cost 30
+first 2
+second 1 3" "$split" 0
+echo "example: 18 outputs agree"

@@ -43,6 +43,7 @@ const char *split_in_static_table(const struct kippertarn_queue_record *queue, u
             && split.first.jobs + split.second.jobs == queue->jobs)
             *cost = split.cost;
         break;
+    case KIPPERTARN_NO_ORDER: return queue->gap[queue->start][0] == KIPPERTARN_NEVER ? "1 is never first" : "no split";
     case KIPPERTARN_UNCOVERED: return "every place is needed";
     case KIPPERTARN_SECOND_START: return "no such kind";
     default: break;

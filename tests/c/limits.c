@@ -39,6 +39,7 @@ static void messages_around_limits(unsigned long random_queues)
             permit_all(&q);
         around_limits("a random queue", message, kippertarn_write_queue_record(&q, message, sizeof message));
     }
+    expect_nevers(random_queues);
 }
 
 static void null_pointers(void)

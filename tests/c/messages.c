@@ -3,6 +3,7 @@
 #include "queues.h"
 
 static unsigned long met_queue[19], met_plan[19], messages;
+static unsigned long met_never, met_over; /* queues accepted with a never, and refused with a gap just over it */
 
 /* A planning call with lengths that are often too short, so that the order of 1 to 14, 15, 16 and 17 shows. */
 static void plan_damaged(const uint8_t *message, size_t length)
@@ -18,7 +19,7 @@ static void plan_damaged(const uint8_t *message, size_t length)
     compare_plan("a damaged queue", message, length, entries, buffers[below(6)]);
 }
 
-/* The same for a splitting call: 1 to 14, 19, 20, 15, 16. Only small queues are split. */
+/* The same for a splitting call: 1 to 14, 19, 20, 15, 16, 17. Only small queues are split. */
 static void split_damaged(const uint8_t *message, size_t length)
 {
     struct kippertarn_queue_record q;
@@ -33,7 +34,8 @@ static void split_damaged(const uint8_t *message, size_t length)
     compare_split("a damaged queue", message, length, second_start, entries, below(4) ? 77 : 76);
 }
 
-static void compare_message(const char *what, const uint8_t *message, size_t length)
+/* Answers R as a queue. */
+static int compare_message(const char *what, const uint8_t *message, size_t length)
 {
     int as_queue, as_plan;
     struct kippertarn_plan_record plan;
@@ -48,6 +50,24 @@ static void compare_message(const char *what, const uint8_t *message, size_t len
     messages++;
     plan_damaged(message, length);
     split_damaged(message, length);
+    return as_queue;
+}
+
+/* How many gaps of a queue are just this. */
+static unsigned gaps_of(const struct numbers *n, uint64_t value)
+{
+    unsigned count = 0;
+    for (size_t i = 0; i < n->count; i++)
+        count += n->high[i] == KIPPERTARN_NEVER && n->value[i] == value;
+    return count;
+}
+
+/* The same for a message of these numbers, with a count of how its gaps fared around never. */
+static void compare_numbers(const char *what, const struct numbers *n, const uint8_t *message, size_t length)
+{
+    int as_queue = compare_message(what, message, length);
+    met_never += as_queue == 0 && gaps_of(n, KIPPERTARN_NEVER) > 0;
+    met_over += as_queue == 9 && gaps_of(n, KIPPERTARN_NEVER + 1) > 0;
 }
 
 /* Changes, cuts off or adds bytes. */
@@ -78,7 +98,7 @@ static void damaged(const char *what, struct numbers n, uint8_t second)
     length = write_numbers(&n, second, odd, message, sizeof message - 8);
     if (below(3) == 0)
         length = damage_bytes(message, length, sizeof message);
-    compare_message(what, message, length);
+    compare_numbers(what, &n, message, length);
 }
 
 /* Every beginning of a message, and it with one byte more. */
@@ -103,7 +123,7 @@ static void every_bound(const struct numbers *n, uint8_t second)
             struct numbers other = *n;
             other.value[at] = values[v];
             size_t length = write_numbers(&other, second, n->count, message, sizeof message - 8);
-            compare_message("a number at its bound", message, length);
+            compare_numbers("a number at its bound", &other, message, length);
         }
         compare_message("a number in too many groups", message,
                         write_numbers(n, second, at, message, sizeof message - 8));
@@ -149,7 +169,7 @@ static void expect_met(const char *what, const unsigned long *times, unsigned fr
 int main(int count, char **words)
 {
     struct rounds rounds = rounds_from(count, words, 250000);
-    char cases[80];
+    char cases[160];
     open_rooms();
     while (another_round(&rounds)) {
         struct kippertarn_queue_record q;
@@ -174,12 +194,19 @@ int main(int count, char **words)
     expect_met("of a queue", met_queue, 0, 14, least);
     expect_met("of planning", met, 0, 17, least);
     expect_met("of splitting", met_split, 0, 16, least);
+    expect_met("of splitting", met_split, 17, 17, least / 4); /* small queues alone are split */
     expect_met("of splitting", met_split, 19, 20, least);
     expect_met("of a plan", met_plan, 0, 4, least);
     expect_met("of a plan", met_plan, 6, 6, least);
     expect_met("of a plan", met_plan, 12, 12, least);
     expect_met("of a plan", met_plan, 14, 14, least);
     expect_met("of a plan", met_plan, 18, 18, least);
-    snprintf(cases, sizeof cases, "%lu messages, damaged and whole", messages);
+    expect_nevers(rounds.done);
+    if (met_never < 10 * least || met_over < least) {
+        printf("FAILED: %lu queues only were accepted with a never, %lu refused with 65537\n", met_never, met_over);
+        failures++;
+    }
+    snprintf(cases, sizeof cases, "%lu messages, damaged and whole, %lu accepted with a never, %lu refused with 65537",
+             messages, met_never, met_over);
     return summary("messages", cases);
 }

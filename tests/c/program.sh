@@ -57,13 +57,23 @@ echo gaps | text pack | expect 5 "refused 5 contents"
 like_a 's/goal 1/goal 3/' | expect 6 "refused 6 contents"
 like_a 's/shift 1/shift 61/' | expect 7 "refused 7 contents"
 like_a 's/start 0/start 3/' | expect 8 "refused 8 contents"
-like_a 's/gaps 10/gaps 65536/' | expect 9 "refused 9 contents"
+like_a 's/gaps 10/gaps 65537/' | expect 9 "refused 9 contents"
 like_a 's/pupils 3/pupils 1001/' | expect 10 "refused 10 contents"
 like_a 's/places 1-60/places 0-60/' | expect 11 "refused 11 contents"
 like_a "s/jobs.*/jobs $(yes 1 | head -n 61 | tr '\n' ' ')/" | expect 12 "refused 12 contents"
 like_a 's/jobs 1 2 1/jobs 1 2 3/' | expect 13 "refused 13 contents"
 # order
 expect 17 "refused 17 order" < examples/case-e.queue
+like_a 's/gaps 20 50/gaps 20 never/;s/gaps 40/gaps never/' | expect "17, by nevers alone" "refused 17 order"
+# never: A without 1 after 2 has the order 1 3 2 alone, and two states fewer are kept
+like_a 's/gaps 40/gaps never/' | expect "A without 1 after 2" "cost 80 kept 5
+1 1 1 10
+2 3 1 30
+3 2 2 80"
+like_a 's/gaps 10 10/gaps never never/;s/start 0/start 2/' | expect "a cold row that is not read" "cost 90 kept 7
+1 2 2 30
+2 1 1 70
+3 3 1 90"
 
 # The table has 8192 entries. The texts say how their figures are worked out by hand.
 packed entries-8192 | expect "8192 entries" "cost 505 kept 6912
@@ -101,4 +111,4 @@ $(awk 'BEGIN { for (p = 1; p <= 60; p++) print p, p, (p < 60 ? 2 : 5), 20000 * p
 { packed bytes-178; printf '\000'; } | expect "14, 179 bytes" "refused 14 message"
 sed '/^jobs/s/5$/16384/' tests/c/queues/bytes-178.txt | text pack | expect "13, 180 bytes" "refused 13 contents"
 
-echo "program: 26 outputs agree"
+echo "program: 29 outputs agree"

@@ -56,6 +56,88 @@ static inline void choose_places(struct kippertarn_queue_record *q)
     }
 }
 
+/* Forbids all successions but those of some order, or most of them. */
+static inline void forbid_but_an_order(struct kippertarn_queue_record *q)
+{
+    unsigned place[60], kind[61] = { q->start }, spare = below(3);
+    int used[6][5] = { { 0 } };
+    place_jobs(q, q->shift, place);
+    for (unsigned i = 0; i < q->jobs; i++)
+        kind[place[i]] = q->kind[i];
+    for (unsigned p = 1; p <= q->jobs; p++)
+        used[kind[p - 1]][kind[p] - 1] = 1;
+    for (unsigned i = 0; i <= q->kinds; i++)
+        for (unsigned j = 0; j < q->kinds; j++)
+            if (!used[i][j] && below(spare + 2) <= spare)
+                q->gap[i][j] = KIPPERTARN_NEVER;
+}
+
+/* Whether a gap is forbidden: one of few or many, in a row, in row 0, in a column, or on the diagonal. */
+static inline int choose_never(unsigned how, unsigned in, unsigned i, unsigned j)
+{
+    switch (how) {
+    case 0: return below(3 * in + 3) == 0;
+    case 1: return below(5) > 1;
+    case 2: return i == in || (i > 0 && below(8) == 0);
+    case 3: return i == 0;
+    case 4: return j == in && i > 0;
+    case 5: return i == j;
+    default: return 0;
+    }
+}
+
+/* Forbidden successions, for half the queues. Beside them a gap sometimes has the most seconds it can. */
+static inline void choose_nevers(struct kippertarn_queue_record *q)
+{
+    unsigned how = below(14), in = between(0, q->kinds), most = below(8);
+    for (unsigned i = 0; i <= q->kinds; i++)
+        for (unsigned j = 1; j <= q->kinds; j++)
+            if (choose_never(how, in, i, j))
+                q->gap[i][j - 1] = KIPPERTARN_NEVER;
+            else if (how <= 6 && most == 0)
+                q->gap[i][j - 1] = KIPPERTARN_GAP_MOST;
+    if (how == 6)
+        forbid_but_an_order(q);
+}
+
+/* Queues by chance, by what is forbidden in them. */
+enum { NO_NEVER, FEW, MANY, ROW, ROW_0, DIAGONAL, BESIDE_MOST, NEVERS };
+static unsigned long met_nevers[NEVERS];
+
+static inline void count_nevers(const struct kippertarn_queue_record *q)
+{
+    unsigned all = 0, most = 0, diagonal = 0, row[6] = { 0 }, rows = 0;
+    for (unsigned i = 0; i <= q->kinds; i++) {
+        for (unsigned j = 0; j < q->kinds; j++) {
+            row[i] += q->gap[i][j] == KIPPERTARN_NEVER;
+            diagonal += i == j + 1 && q->gap[i][j] == KIPPERTARN_NEVER;
+            most += q->gap[i][j] == KIPPERTARN_GAP_MOST;
+        }
+        all += row[i];
+        rows += i > 0 && row[i] == q->kinds;
+    }
+    met_nevers[NO_NEVER] += all == 0;
+    met_nevers[FEW] += all > 0 && all * 3 <= q->kinds * (q->kinds + 1);
+    met_nevers[MANY] += all * 3 > q->kinds * (q->kinds + 1);
+    met_nevers[ROW] += rows > 0;
+    met_nevers[ROW_0] += q->start == 0 && row[0] == q->kinds;
+    met_nevers[DIAGONAL] += diagonal == q->kinds;
+    met_nevers[BESIDE_MOST] += all > 0 && most > 0;
+}
+
+/* Each of these was met in five queues of a thousand at least, and no never in four hundred. */
+static inline void expect_nevers(unsigned long queues)
+{
+    static const char *const names[NEVERS] = { "no never",        "few nevers",         "many nevers",
+                                               "a row all never", "row 0 all never",    "the diagonal never",
+                                               "65535 beside never" };
+    for (unsigned i = 0; i < NEVERS; i++)
+        if (met_nevers[i] < queues / 1000 * (i == NO_NEVER ? 400 : 5)) {
+            printf("FAILED: of %lu queues %lu only had %s\n", queues, met_nevers[i], names[i]);
+            failures++;
+        }
+}
+
 /* An accepted queue of at most `most_jobs` jobs that needs at most `most_entries`. */
 static inline void random_queue(struct kippertarn_queue_record *q, unsigned most_jobs, size_t most_entries)
 {
@@ -84,9 +166,11 @@ static inline void random_queue(struct kippertarn_queue_record *q, unsigned most
     default: q->shift = between(0, 4); break;
     }
     choose_places(q);
+    choose_nevers(q);
+    count_nevers(q);
 }
 
-/* Makes every order of a queue permitted, at the least or by more. */
+/* Lets every job of a queue stand at every place, at the least or by more. */
 static inline void permit_all(struct kippertarn_queue_record *q)
 {
     if (q->jobs == 0)
@@ -133,7 +217,7 @@ static inline struct numbers queue_numbers(const struct kippertarn_queue_record 
     add_number(&n, q->start, 0, q->kinds);
     for (unsigned i = 0; i <= q->kinds; i++)
         for (unsigned j = 0; j < q->kinds; j++)
-            add_number(&n, q->gap[i][j], 0, 65535);
+            add_number(&n, q->gap[i][j], 0, KIPPERTARN_NEVER);
     for (unsigned j = 0; j < q->kinds; j++)
         add_number(&n, q->pupils[j], 0, 1000);
     for (unsigned j = 0; j < q->kinds; j++) {

@@ -17,12 +17,20 @@ static void compare_record(const struct ref_answer *a, const struct kippertarn_q
     expect("the helper's plan record", (uint64_t)(read && same), 1);
 }
 
-/* The largest table there is, once for each goal. */
-static void largest(unsigned goal)
+/* Whether a queue has an order with nothing forbidden. */
+static int free_has_order(struct kippertarn_queue_record q)
+{
+    memset(q.gap, 0, sizeof q.gap);
+    return ref_plan_record(&q, wanted_table, REF_MOST, 77).answer % 256 == 0;
+}
+
+/* The largest table there is, for each goal, without a never and with some. */
+static void largest(unsigned goal, int nevers)
 {
     struct kippertarn_queue_record q = {
         .kinds = 5, .goal = goal, .shift = goal == 1 ? 60 : 25, .start = 3, .jobs = 60
     };
+    struct ref_answer a;
     uint8_t message[KIPPERTARN_QUEUE_BYTES];
     for (unsigned i = 0; i < 60; i++)
         q.kind[i] = 1 + (i * 7 + i / 5) % 5;
@@ -31,22 +39,25 @@ static void largest(unsigned goal)
         q.last[j] = 60;
         q.pupils[j] = between(990, 1000);
         for (unsigned i = 0; i <= 5; i++)
-            q.gap[i][j] = between(65000, 65535);
+            q.gap[i][j] = nevers && (i * 2 + j) % 5 == 0 ? KIPPERTARN_NEVER : between(65000, 65535);
     }
     expect("the largest table", entries_of(&q), KIPPERTARN_ENTRIES_MOST);
-    compare_plan("the largest table", message, kippertarn_write_queue_record(&q, message, sizeof message),
-                 KIPPERTARN_ENTRIES_MOST, 77);
+    a = compare_plan("the largest table", message, kippertarn_write_queue_record(&q, message, sizeof message),
+                     KIPPERTARN_ENTRIES_MOST, 77);
+    expect("the largest table", a.answer % 256, KIPPERTARN_DONE);
 }
 
 int main(int count, char **words)
 {
     struct rounds rounds = rounds_from(count, words, 300000);
-    char cases[80];
-    unsigned long queues = 0, entries = 0;
+    char cases[160];
+    unsigned long queues = 0, entries = 0, forbidden = 0;
     open_rooms();
     if (count < 2 || count > 3) {
-        largest(1);
-        largest(2);
+        largest(1, 0);
+        largest(2, 0);
+        largest(1, 1);
+        largest(2, 1);
     }
     while (another_round(&rounds)) {
         struct kippertarn_queue_record q;
@@ -61,13 +72,18 @@ int main(int count, char **words)
             compare_record(&a, &q);
         else
             expect("an accepted queue is planned or has no order", a.answer, 17);
+        forbidden += a.answer == 17 && free_has_order(q);
         queues++;
         entries += needed;
     }
-    if (met[17] < queues / 20 || met[0] < queues / 2) {
-        printf("FAILED: %lu plans and %lu queues without an order only\n", met[0], met[17]);
+    expect_nevers(queues);
+    if (met[17] < queues / 20 || met[0] < queues / 2 || forbidden < queues / 50) {
+        printf("FAILED: %lu plans and %lu queues without an order only, %lu by nevers alone\n", met[0], met[17],
+               forbidden);
         failures++;
     }
-    snprintf(cases, sizeof cases, "%lu queues, %lu without an order, %lu table entries", queues, met[17], entries);
+    snprintf(cases, sizeof cases,
+             "%lu queues, %lu with a never, %lu without an order, %lu of them by nevers alone, %lu table entries",
+             queues, queues - met_nevers[NO_NEVER], met[17], forbidden, entries);
     return summary("random", cases);
 }

@@ -1,4 +1,5 @@
-/* Readers of both messages and a planner by the plain recursion, written from document 01 alone, to compare with. */
+/* Readers of both messages and a planner by the plain recursion, written from document 01 alone, and for forbidden
+ * successions from 02, to compare with. */
 #ifndef REFERENCE_H
 #define REFERENCE_H
 
@@ -61,7 +62,7 @@ static inline int ref_read_queue(const uint8_t *bytes, size_t length, struct kip
         return r;
     for (unsigned i = 0; i <= q->kinds; i++)
         for (unsigned j = 0; j < q->kinds; j++)
-            if ((r = ref_field(&c, 0, 65535, 9, &q->gap[i][j])))
+            if ((r = ref_field(&c, 0, 65536, 9, &q->gap[i][j])))
                 return r;
     for (unsigned j = 0; j < q->kinds; j++)
         if ((r = ref_field(&c, 0, 1000, 10, &q->pupils[j])))
@@ -101,6 +102,16 @@ static inline int ref_check_plan(const uint8_t *bytes, size_t length)
     return c.at < length ? 14 : 0;
 }
 
+/* 02's look-up of a gap, which gives seconds or never: whether a job of kind j may come right after one of kind i, or
+ * after the cold cutter's 0, and if so the seconds. */
+static inline int ref_gap(const struct kippertarn_queue_record *q, unsigned i, unsigned j, uint64_t *seconds)
+{
+    if (q->gap[i][j - 1] == 65536)
+        return 0;
+    *seconds = q->gap[i][j - 1];
+    return 1;
+}
+
 /* Job i of the queue at place p: 01's "permitted". */
 static inline int ref_permitted(const struct kippertarn_queue_record *q, unsigned i, unsigned p)
 {
@@ -120,7 +131,7 @@ struct ref_answer {
 #define REF_NOT_KEPT UINT64_MAX
 #define REF_MOST ((size_t)1856465)
 
-/* What is worked out of one queue. Values and fillings are worked out once each, and remembered. */
+/* What is worked out of one queue. Values and ways on are worked out once each, and remembered. */
 struct ref_work {
     struct kippertarn_queue_record q;
     unsigned all[5];     /* K_j */
@@ -128,7 +139,7 @@ struct ref_work {
     size_t p;            /* P */
     uint64_t *value;     /* the table */
     uint8_t *known;      /* which values are worked out */
-    uint8_t *fills;      /* by the part of the entry number that k gives: 0 not known, 1 no, 2 yes */
+    uint8_t *way_on;     /* by the entry number: 0 not known, 1 no, 2 yes */
 };
 
 static inline size_t ref_k_number(const struct ref_work *w, const unsigned *k)
@@ -153,42 +164,43 @@ static inline int ref_cut_permitted(const struct ref_work *w, unsigned l, const 
     return ref_permitted(&w->q, w->job[l - 1][w->all[l - 1] - k[l - 1] - 1], w->q.jobs - ref_left(w, k));
 }
 
-/* Whether the jobs left can fill the later places, all permitted, each kind by hand-in. */
-static inline int ref_fills(struct ref_work *w, unsigned *k)
+/* Whether the jobs left can fill the places after L's, all permitted, each kind by hand-in, no succession forbidden. */
+static inline int ref_way_on(struct ref_work *w, unsigned l, unsigned *k)
 {
-    size_t number = ref_k_number(w, k);
-    if (!w->fills[number]) {
-        int fills = ref_left(w, k) == 0;
-        for (unsigned x = 1; x <= w->q.kinds && !fills; x++)
-            if (k[x - 1] > 0) {
+    size_t entry = (l - 1) * w->p + ref_k_number(w, k);
+    uint64_t seconds;
+    if (!w->way_on[entry]) {
+        int on = ref_left(w, k) == 0;
+        for (unsigned x = 1; x <= w->q.kinds && !on; x++)
+            if (k[x - 1] > 0 && ref_gap(&w->q, l, x, &seconds)) {
                 k[x - 1]--;
-                fills = ref_cut_permitted(w, x, k) && ref_fills(w, k);
+                on = ref_cut_permitted(w, x, k) && ref_way_on(w, x, k);
                 k[x - 1]++;
             }
-        w->fills[number] = fills ? 2 : 1;
+        w->way_on[entry] = on ? 2 : 1;
     }
-    return w->fills[number] == 2;
+    return w->way_on[entry] == 2;
 }
 
 static inline uint64_t ref_value(struct ref_work *w, unsigned l, unsigned *k);
 
-/* The least over kinds x with a kept next state of W * gap(L, x) + its value, and the smallest x that reaches it; L may
- * be the start. */
+/* The least, over kinds x that may follow L and have a kept next state, of W * gap(L, x) + its value, and the smallest
+ * x that reaches it; L may be the start. */
 static inline uint64_t ref_least(struct ref_work *w, unsigned l, unsigned *k, unsigned *next)
 {
-    uint64_t best = REF_NOT_KEPT, weight = 0;
+    uint64_t best = REF_NOT_KEPT, weight = 0, seconds;
     *next = 0;
     for (unsigned j = 0; j < w->q.kinds; j++)
         weight += (uint64_t)k[j] * w->q.pupils[j];
     if (w->q.goal == 1)
         weight = 1;
     for (unsigned x = 1; x <= w->q.kinds; x++)
-        if (k[x - 1] > 0) {
+        if (k[x - 1] > 0 && ref_gap(&w->q, l, x, &seconds)) {
             k[x - 1]--;
             uint64_t rest = ref_value(w, x, k);
             k[x - 1]++;
-            if (rest != REF_NOT_KEPT && weight * w->q.gap[l][x - 1] + rest < best) {
-                best = weight * w->q.gap[l][x - 1] + rest;
+            if (rest != REF_NOT_KEPT && weight * seconds + rest < best) {
+                best = weight * seconds + rest;
                 *next = x;
             }
         }
@@ -201,7 +213,7 @@ static inline uint64_t ref_value(struct ref_work *w, unsigned l, unsigned *k)
     size_t entry = (l - 1) * w->p + ref_k_number(w, k);
     unsigned next;
     if (!w->known[entry]) {
-        if (k[l - 1] == w->all[l - 1] || !ref_cut_permitted(w, l, k) || !ref_fills(w, k))
+        if (k[l - 1] == w->all[l - 1] || !ref_cut_permitted(w, l, k) || !ref_way_on(w, l, k))
             w->value[entry] = REF_NOT_KEPT;
         else
             w->value[entry] = ref_left(w, k) == 0 ? 0 : ref_least(w, l, k, &next);
@@ -246,13 +258,13 @@ static inline void ref_write_plan(struct ref_work *w, struct ref_answer *a)
     a->plan_bytes = to.at;
 }
 
-/* Plans an accepted queue as 01 says; `table` has room for REF_MOST entries whatever is lent. */
+/* Plans an accepted queue as 01 and 02 say; `table` has room for REF_MOST entries whatever is lent. */
 static inline struct ref_answer ref_plan_record(const struct kippertarn_queue_record *q, uint64_t *table,
                                                 size_t entries, size_t plan_length)
 {
-    static uint8_t known[REF_MOST], fills[REF_MOST];
+    static uint8_t known[REF_MOST], way_on[REF_MOST];
     struct ref_answer a = { 0 };
-    struct ref_work w = { .q = *q, .p = 1, .value = table, .known = known, .fills = fills };
+    struct ref_work w = { .q = *q, .p = 1, .value = table, .known = known, .way_on = way_on };
     unsigned k[5] = { 0 }, next;
     if (plan_length < 77) {
         a.answer = 15;
@@ -270,7 +282,7 @@ static inline struct ref_answer ref_plan_record(const struct kippertarn_queue_re
     }
     a.filled = w.q.kinds * w.p;
     memset(known, 0, a.filled);
-    memset(fills, 0, w.p);
+    memset(way_on, 0, a.filled);
     a.kept = ref_every(&w, w.q.kinds, k);
     memcpy(k, w.all, sizeof k);
     a.cost = w.q.jobs == 0 ? 0 : ref_least(&w, w.q.start, k, &next);

@@ -31,7 +31,7 @@ static inline uint64_t ref_both(unsigned goal, uint64_t first, uint64_t second)
     return first > second ? first : second;
 }
 
-/* What one cutter takes, as a queue in which every order is permitted. */
+/* What one cutter takes, as a queue in which every job may stand at every place. */
 struct ref_share {
     struct kippertarn_queue_record q;
     unsigned number[60]; /* its jobs in the message */
@@ -64,7 +64,8 @@ static inline void ref_share_out(const struct kippertarn_queue_record *q, const 
 }
 
 /* The first split of least cost, with the first cutter's counts of the kinds before `kinds` chosen. Kind 1's run
- * slowest, so that of equal splits the one with the fewest of kind 1 comes first, then of kind 2 and on. */
+ * slowest, so that of equal splits the one with the fewest of kind 1 comes first, then of kind 2 and on. Where either
+ * cutter has no order it is no split. */
 static inline void ref_try_shares(const struct kippertarn_queue_record *q, unsigned kinds, unsigned *n,
                                   struct ref_share *share, struct ref_orders *best)
 {
@@ -80,6 +81,8 @@ static inline void ref_try_shares(const struct kippertarn_queue_record *q, unsig
     ref_share_out(q, n, share);
     struct ref_answer a[2] = { ref_plan_record(&share[0].q, table, REF_MOST, 77),
                                ref_plan_record(&share[1].q, table, REF_MOST, 77) };
+    if (a[0].answer == 17 || a[1].answer == 17)
+        return;
     uint64_t cost = ref_both(q->goal, a[0].cost, a[1].cost);
     if (cost >= best->cost)
         return;
@@ -93,6 +96,7 @@ static inline void ref_try_shares(const struct kippertarn_queue_record *q, unsig
     }
 }
 
+/* 02's split; where there is none its cost is UINT64_MAX. */
 static inline struct ref_orders ref_by_shares(const struct kippertarn_queue_record *q, unsigned second_start)
 {
     struct ref_share share[2] = { ref_empty_share(q, q->start), ref_empty_share(q, second_start) };
@@ -106,7 +110,7 @@ static inline struct ref_orders ref_by_shares(const struct kippertarn_queue_reco
 
 /* Counts as one number, kind 1 most significant: numbers run as 02 prefers the counts of equal splits, and what is left
  * of all jobs has the number P - 1 less it. For every L from 0 to N and every number, the least cost of cutting so many
- * after L, in any order. */
+ * after L, in any order without a forbidden succession; UINT64_MAX where there is none. */
 struct ref_costs {
     unsigned all[5], job[5][60]; /* K_j, and the jobs of each kind */
     size_t p, unit[5];           /* P, and what one job of each kind adds to a number */
@@ -118,21 +122,21 @@ static inline unsigned ref_digit(const struct ref_costs *c, unsigned j, size_t n
     return (unsigned)(number / c->unit[j]) % (c->all[j] + 1);
 }
 
-/* The least over kinds x of cutting x first, and the smallest x that reaches it. */
+/* The least, over kinds x that may follow, of cutting x first, and the smallest x that reaches it. */
 static inline uint64_t ref_cut_first(const struct kippertarn_queue_record *q, const struct ref_costs *c, unsigned last,
                                      size_t number, unsigned *first)
 {
-    uint64_t best = UINT64_MAX, waiting = 0;
+    uint64_t best = UINT64_MAX, waiting = 0, seconds;
     unsigned left[5];
     for (unsigned j = 0; j < q->kinds; j++) {
         left[j] = ref_digit(c, j, number);
         waiting += (uint64_t)left[j] * q->pupils[j];
     }
     for (unsigned x = 1; x <= q->kinds; x++)
-        if (left[x - 1] > 0) {
-            uint64_t cost = q->gap[last][x - 1] * (q->goal == 1 ? 1 : waiting) + c->least[x][number - c->unit[x - 1]];
-            if (cost < best) {
-                best = cost;
+        if (left[x - 1] > 0 && ref_gap(q, last, x, &seconds)) {
+            uint64_t rest = c->least[x][number - c->unit[x - 1]];
+            if (rest != UINT64_MAX && seconds * (q->goal == 1 ? 1 : waiting) + rest < best) {
+                best = seconds * (q->goal == 1 ? 1 : waiting) + rest;
                 *first = x;
             }
         }
@@ -171,12 +175,14 @@ static inline struct ref_orders ref_by_costs(const struct kippertarn_queue_recor
         for (unsigned l = 0; l <= q->kinds; l++)
             least[l][number] = number == 0 ? 0 : ref_cut_first(q, &c, l, number, &first);
     for (size_t number = 0; number < c.p; number++) {
-        uint64_t cost = ref_both(q->goal, least[q->start][number], least[second_start][c.p - 1 - number]);
-        if (cost < best.cost) {
-            best.cost = cost;
+        uint64_t one = least[q->start][number], two = least[second_start][c.p - 1 - number];
+        if (one != UINT64_MAX && two != UINT64_MAX && ref_both(q->goal, one, two) < best.cost) {
+            best.cost = ref_both(q->goal, one, two);
             chosen = number;
         }
     }
+    if (best.cost == UINT64_MAX)
+        return best;
     best.jobs[0] = ref_follow(q, &c, q->start, chosen, taken, best.job[0]);
     best.jobs[1] = ref_follow(q, &c, second_start, c.p - 1 - chosen, taken, best.job[1]);
     return best;
@@ -200,7 +206,7 @@ static inline size_t ref_write_split(unsigned goal, const struct ref_orders *spl
 
 #define REF_SHARES_MOST 700 /* entries of a table up to which each share is planned as a queue of its own */
 
-/* Splits a message as 02 says; `table` as for ref_plan. */
+/* Splits a message as 02 says; `table` as for ref_plan. A message may have a split where one cutter has no order. */
 static inline struct ref_answer ref_split(const uint8_t *message, size_t length, uint32_t second_start, uint64_t *table,
                                           size_t entries, size_t plan_length)
 {
@@ -213,11 +219,16 @@ static inline struct ref_answer ref_split(const uint8_t *message, size_t length,
     if (a.answer)
         return a;
     a = ref_plan_record(&q, table, entries, plan_length);
-    if (a.answer % 256 != 0)
+    if (a.answer % 256 != 0 && a.answer != 17)
         return a;
     struct ref_orders best = a.filled <= REF_SHARES_MOST ? ref_by_shares(&q, second_start)
                                                          : ref_by_costs(&q, second_start);
     a.cost = best.cost;
+    if (best.cost == UINT64_MAX) {
+        a.answer = 17;
+        a.plan_bytes = 0;
+        return a;
+    }
     a.plan_bytes = ref_write_split(q.goal, &best, a.plan, sizeof a.plan);
     a.answer = 256 * (uint64_t)a.plan_bytes;
     return a;

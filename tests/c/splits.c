@@ -5,6 +5,8 @@
 #include <pthread.h>
 
 static unsigned long splits_tried;
+/* Small queues without a split, and those with one that have no order on one cutter. */
+static unsigned long small_none, small_only;
 
 /* A queue without jobs yet, all orders permitted. */
 static struct kippertarn_queue_record free_queue(unsigned kinds, unsigned goal, unsigned start)
@@ -23,17 +25,22 @@ static void add_jobs(struct kippertarn_queue_record *q, unsigned kind, unsigned 
         q->kind[q->jobs++] = kind;
 }
 
-/* Both measures of the jobs of one cutter in their order, and their pupils. */
+/* Both measures of the jobs of one cutter in their order, and their pupils; or that a succession is forbidden. */
 struct measures {
     uint64_t last_finish, waiting, pupils;
+    int never;
 };
 
 static struct measures measure(const struct kippertarn_queue_record *q, unsigned start, const unsigned *job,
                                unsigned jobs)
 {
-    struct measures m = { 0, 0, 0 };
+    struct measures m = { 0, 0, 0, 0 };
     for (unsigned i = 0; i < jobs; i++) {
         unsigned j = q->kind[job[i] - 1];
+        if (q->gap[start][j - 1] > 65535) {
+            m.never = 1;
+            break;
+        }
         m.last_finish += q->gap[start][j - 1];
         m.waiting += q->pupils[j - 1] * m.last_finish;
         m.pupils += q->pupils[j - 1];
@@ -75,9 +82,10 @@ static int read_split(const struct kippertarn_queue_record *q, const uint8_t *by
 
 enum { SMALL = 6, RANKS = 6 + 2 * (1 + 2 * SMALL) };
 
-/* All splits of a small queue: the least cost of any, and of those in which the first cutter takes the earliest handed
- * in the one that 02 takes. It is the least by these numbers, from the first on: its cost; the count of each kind on
- * the first cutter; and for either cutter the cost of its own order, then its kinds and its jobs, place by place. */
+/* All splits of a small queue without a forbidden succession: the least cost of any, and of those in which the first
+ * cutter takes the earliest handed in the one that 02 takes. It is the least by these numbers, from the first on: its
+ * cost; the count of each kind on the first cutter; and for either cutter the cost of its own order, then its kinds and
+ * its jobs, place by place. */
 struct all_splits {
     const struct kippertarn_queue_record *q;
     unsigned second_start;
@@ -105,6 +113,8 @@ static void try_split(struct all_splits *all, const unsigned *job, unsigned cut)
                              measure(q, all->second_start, order[1], jobs[1]) };
     uint64_t rank[RANKS] = { split_cost(q->goal, m) };
     splits_tried++;
+    if (m[0].never || m[1].never)
+        return;
     if (rank[0] < all->least)
         all->least = rank[0];
     if (rank[0] > all->least || !takes_earliest(q, job, cut))
@@ -150,7 +160,7 @@ static void try_splits(struct all_splits *all, unsigned *job, unsigned listed)
     }
 }
 
-/* What the part answers for a queue of at most six jobs, held to all splits. */
+/* What the part answers for a queue of at most six jobs, held to all splits: 17 exactly when there is none. */
 static int split_is_best(const struct kippertarn_queue_record *q, unsigned second_start, uint64_t answer,
                          const uint8_t *bytes)
 {
@@ -159,11 +169,13 @@ static int split_is_best(const struct kippertarn_queue_record *q, unsigned secon
     unsigned job[SMALL];
     uint8_t wanted[KIPPERTARN_PLAN_BYTES];
     try_splits(&all, job, 0);
+    if (all.least == UINT64_MAX)
+        return answer == 17;
     if (answer % 256 != 0 || answer / 256 > KIPPERTARN_SPLIT_BYTES || !read_split(q, bytes, answer / 256, &split))
         return 0;
     struct measures m[2] = { measure(q, q->start, split.job[0], split.jobs[0]),
                              measure(q, second_start, split.job[1], split.jobs[1]) };
-    return split.cost == all.least && split_cost(q->goal, m) == all.least
+    return !m[0].never && !m[1].never && split.cost == all.least && split_cost(q->goal, m) == all.least
            && ref_write_split(q->goal, &all.taken, wanted, sizeof wanted) == answer / 256
            && memcmp(bytes, wanted, answer / 256) == 0;
 }
@@ -174,9 +186,12 @@ static void compare_all_splits(const char *what, const struct kippertarn_queue_r
     static uint64_t table[KIPPERTARN_ENTRIES(5, 2, 1, 1, 1, 1)]; /* the most that six jobs need */
     uint8_t message[KIPPERTARN_QUEUE_BYTES], plan[KIPPERTARN_PLAN_BYTES] = { 0 };
     size_t length = kippertarn_write_queue_record(q, message, sizeof message);
-    uint64_t answer;
+    uint64_t alone, answer;
     watch(message, length);
+    alone = kippertarn_plan(message, length, table, entries_of(q), plan, sizeof plan);
     answer = kippertarn_split(message, length, second_start, table, entries_of(q), plan, sizeof plan);
+    small_none += answer == 17;
+    small_only += answer != 17 && alone == 17;
     compared++;
     if (!split_is_best(q, second_start, answer, plan)) {
         printf("FAILED %s: answer %llu is not 02's choice of all splits, second start %u\n", what,
@@ -257,6 +272,87 @@ static void small_queues(void)
     expect_split("no jobs", free_a(1, ""), 0, SPLIT(1, 0, 0, 0));
     expect_split("no jobs, goal 2", free_a(2, ""), 2, SPLIT(2, 0, 0, 0));
     expect_split("H: every split costs 0", h, 0, SPLIT(1, 0, 0, 2, 2, 1));
+}
+
+/* Holds a queue to having no split. */
+static void expect_none(const char *what, struct kippertarn_queue_record q, unsigned second_start)
+{
+    split_with(what, &q, second_start, 17);
+    compare_all_splits(what, &q, second_start);
+}
+
+/* A queue without a split: 17 comes after all other refusals. */
+static void none_comes_last(struct kippertarn_queue_record q)
+{
+    uint8_t message[KIPPERTARN_QUEUE_BYTES];
+    size_t length = kippertarn_write_queue_record(&q, message, sizeof message), entries = entries_of(&q);
+    expect("15 before 17", compare_split("15 before 17", message, length, 0, entries, 76).answer, 15);
+    expect("16 before 17", compare_split("16 before 17", message, length, 0, entries - 1, 77).answer,
+           16 + 256 * (uint64_t)entries);
+    split_with("20 before 17", &q, q.kinds + 1, 20);
+    q.shift = q.jobs - 2;
+    split_with("19 before 17", &q, 0, 19);
+}
+
+/* A and B, but for one succession or for a whole row. */
+static struct kippertarn_queue_record a_without(unsigned goal, const char *kinds, unsigned i, unsigned j)
+{
+    struct kippertarn_queue_record q = free_a(goal, kinds);
+    q.gap[i][j - 1] = KIPPERTARN_NEVER;
+    return q;
+}
+
+static struct kippertarn_queue_record a_without_row(unsigned goal, const char *kinds, unsigned i)
+{
+    struct kippertarn_queue_record q = a_without(goal, kinds, i, 1);
+    q.gap[i][1] = KIPPERTARN_NEVER;
+    return q;
+}
+
+/* Forbidden successions, worked out by hand. The costs as above, - for none:
+ *
+ *     A without         0,0      0,1      1,0      1,1      2,0      2,1
+ *     2 on cold         0 80     - 30     10 60    60 10    30 -     80 0      both cold
+ *     2 on cold         0 90     - 60     10 70    60 40    30 30    80 0      second after 2
+ *     1 after 1         0 100    10 -     10 50    50 10    - 10     100 0     both cold
+ *     any after 2       0 -      10 -     10 -     60 -     30 -     80 0      second after 2 */
+static void forbidden(void)
+{
+    struct kippertarn_queue_record alone = a_without_row(1, "12", 1), none, second_only;
+    expect_split("A without 2 on cold, second cold", a_without(1, "121", 0, 2), 0, SPLIT(1, 60, 1, 1, 2, 3, 2));
+    expect_split("A without 2 on cold, second after 2", a_without(1, "121", 0, 2), 2, SPLIT(1, 30, 2, 1, 3, 1, 2));
+    expect_split("A without 1 after 1, second cold", a_without(1, "121", 1, 1), 0, SPLIT(1, 50, 1, 1, 2, 2, 3));
+    expect_split("A, second after 2, which nothing may follow", a_without_row(1, "121", 2), 2,
+                 SPLIT(1, 80, 3, 1, 3, 2, 0));
+    /* The second cutter can take nothing: it is left empty, which counts 0. */
+    expect_split("B, second after 2, which nothing may follow", a_without_row(2, "121", 2), 2,
+                 SPLIT(2, 0xC8, 0x01, 3, 1, 3, 2, 0));
+    /* And so is the first; one cutter alone, which is the first, has no order. */
+    second_only = a_without_row(1, "12", 2);
+    second_only.start = 2;
+    expect_split("the first after 2, which nothing may follow", second_only, 0, SPLIT(1, 60, 0, 2, 1, 2));
+    expect("one cutter alone has no order", met_only_split, 1);
+    /* Nothing follows anything: a job on each cutter, or none. */
+    memcpy(alone.gap[2], alone.gap[1], sizeof alone.gap[1]);
+    expect_split("one job for each cutter", alone, 0, SPLIT(1, 10, 1, 2, 1, 1));
+    expect("one cutter alone has no order", met_only_split, 2);
+    expect_none("one job for each cutter, the second after 1", alone, 1);
+    add_jobs(&alone, 1, 1);
+    expect_none("one job for each cutter, and a third job", alone, 0);
+    none_comes_last(alone);
+    /* Two cutters that can take nothing have no split but of no jobs. */
+    none = a_without_row(2, "2", 2);
+    none.start = 2;
+    expect_none("one job, both after 2, which nothing may follow", none, 2);
+    none.pupils[0] = none.pupils[1] = 0;
+    expect_none("the same with no pupils: never times 0 is never", none, 2);
+    none.jobs = 0;
+    expect_split("no jobs, both after 2, which nothing may follow", none, 2, SPLIT(2, 0, 0, 0));
+    /* With no pupils every split costs 0: the first by its counts has all jobs on the second cutter, with 1 after 1
+     * forbidden 1 2 1 there. */
+    none = a_without(2, "112", 1, 1);
+    none.pupils[0] = none.pupils[1] = 0;
+    expect_split("no pupils, 1 after 1 forbidden", none, 0, SPLIT(2, 0, 0, 3, 1, 3, 2));
 }
 
 /* 000, section 6.1: rows 80 120 / 80 90, of which its printed values come. */
@@ -504,10 +600,14 @@ static void longest(void)
     struct ref_answer a = split_with("the longest split plan", &q, 0, 0);
     expect("the longest split plan", a.answer, 256 * KIPPERTARN_SPLIT_BYTES);
     expect("its cost", a.cost, (uint64_t)2 * (30 * 31 / 2) * 65535 * 1000);
+    q.gap[0][0] = KIPPERTARN_NEVER; /* the second cutter is cold: all jobs go to the first */
+    a = split_with("the dearest split plan", &q, 0, 0);
+    expect("the dearest split plan", a.answer, 256 * KIPPERTARN_SPLIT_BYTES);
+    expect("its cost", a.cost, (uint64_t)(60 * 61 / 2) * 65535 * 1000);
 }
 
-/* The largest table there is. */
-static void largest(unsigned goal)
+/* The largest table there is, without a never or with some. */
+static void largest(unsigned goal, int nevers)
 {
     struct kippertarn_queue_record q = free_queue(5, goal, 3);
     for (unsigned i = 0; i < 60; i++)
@@ -515,7 +615,7 @@ static void largest(unsigned goal)
     for (unsigned j = 0; j < 5; j++) {
         q.pupils[j] = between(990, 1000);
         for (unsigned i = 0; i <= 5; i++)
-            q.gap[i][j] = between(65000, 65535);
+            q.gap[i][j] = nevers && (i * 2 + j) % 5 == 0 ? KIPPERTARN_NEVER : between(65000, 65535);
     }
     expect("the largest table", entries_of(&q), KIPPERTARN_ENTRIES_MOST);
     split_with("the largest table", &q, goal == 1 ? 0 : 5, 0);
@@ -540,7 +640,7 @@ static void *split_again(void *of)
         s->different += again != first || memcmp(plan[0], plan[1], sizeof plan[0])
                         || memcmp(table[0], table[1], sizeof table[0]);
     }
-    s->different += first % 256 != 0;
+    s->different += first % 256 != 0 && first != 17;
     return NULL;
 }
 
@@ -637,11 +737,12 @@ static void random_small_split(void)
 int main(int count, char **words)
 {
     struct rounds rounds = rounds_from(count, words, 30000);
-    static const unsigned refusals[4] = { 15, 16, 19, 20 };
-    char cases[160];
+    static const unsigned refusals[5] = { 15, 16, 17, 19, 20 };
+    char cases[240];
     unsigned long queues = 0;
     open_rooms();
     small_queues();
+    forbidden();
     section_6_1();
     section_6_2();
     uncovered();
@@ -652,20 +753,31 @@ int main(int count, char **words)
     longest();
     in_threads();
     if (count < 2 || count > 3) {
-        largest(1);
-        largest(2);
+        largest(1, 0);
+        largest(2, 0);
+        largest(1, 1);
+        largest(2, 1);
     }
     while (another_round(&rounds)) {
         random_split(rounds.done);
         random_small_split();
         queues++;
     }
-    for (unsigned i = 0; i < 4; i++)
+    for (unsigned i = 0; i < 5; i++)
         if (met_split[refusals[i]] < queues / 50) {
             printf("FAILED: refusal %u was met %lu times only\n", refusals[i], met_split[refusals[i]]);
             failures++;
         }
-    snprintf(cases, sizeof cases, "chapter 6, %lu random queues, %lu small ones against %lu splits", queues, queues,
-             splits_tried);
+    unsigned long least = queues / 1000 * 5;
+    expect_nevers(2 * queues);
+    if (met_only_split < least || small_only < least || small_none < least) {
+        printf("FAILED: %lu queues and %lu small ones only have a split and no order, %lu small ones no split\n",
+               met_only_split, small_only, small_none);
+        failures++;
+    }
+    snprintf(cases, sizeof cases,
+             "chapter 6, %lu random queues, %lu small ones against %lu splits, %lu and %lu without a split, "
+             "%lu and %lu with one and no order on one cutter",
+             queues, queues, splits_tried, met_split[17], small_none, met_only_split, small_only);
     return summary("splits", cases);
 }

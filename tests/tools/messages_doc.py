@@ -14,11 +14,11 @@ from pathlib import Path
 failures, compared = [], 0
 
 # The limit that a refusal's words name.
-LIMITS = {"KINDS": "KINDS_MOST", "SHIFT": "SHIFT_MOST", "GAP": "GAP_MOST", "PUPILS": "PUPILS_MOST", "PLACES": "PLACE_MOST", "JOBS": "JOBS_MOST",
+LIMITS = {"KINDS": "KINDS_MOST", "SHIFT": "SHIFT_MOST", "GAP": "NEVER", "PUPILS": "PUPILS_MOST", "PLACES": "PLACE_MOST", "JOBS": "JOBS_MOST",
           "BUFFER": "PLAN_BYTES"}
 
 # What planning and splitting give beside the refusals of a queue message.
-BEHIND = {"planning": {"BUFFER", "TABLE", "NO_ORDER"}, "splitting": {"UNCOVERED", "SECOND_START", "BUFFER", "TABLE"}}
+BEHIND = {"planning": {"BUFFER", "TABLE", "NO_ORDER"}, "splitting": {"UNCOVERED", "SECOND_START", "BUFFER", "TABLE", "NO_ORDER"}}
 
 
 def read(path):
@@ -139,6 +139,9 @@ def compare_worked(page):
          "tests/c/cases.c", {"plan B": c_bytes(cases, "plan_b")})
     same("the bytes of", "docs/MESSAGES.md", {"split A": worked_bytes(split), "split B": "".join(re.findall(r"`(51 32 [0-9A-F ]+)`", split))},
          "tests/c/splits.c", {"split A": c_bytes(splits, "split_a"), "split B": c_bytes(splits, "split_b")})
+    never = section(page, "### A queue with a never, byte by byte")
+    same("the bytes of", "docs/MESSAGES.md", {"never": worked_bytes(never), "never's plan": "".join(re.findall(r"`(51 50 [0-9A-F ]+)`", never))},
+         "tests/c/cases.c", {"never": c_bytes(cases, "queue_never"), "never's plan": c_bytes(cases, "plan_never")})
     told = [r for r in rows(section(page, "## The table")) if r[0].isdigit()]
     same("entry", "docs/MESSAGES.md", {i: "NONE" if r[4].startswith("none") else r[4] for i, r in enumerate(told)},
          "tests/c/cases.c", dict(enumerate(c_array(cases, "table_a"))))

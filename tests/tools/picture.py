@@ -1,5 +1,6 @@
 """The text tool's plans, splits and pictures: those of the README; many more, read back from what was printed and drawn
 and held to the finishes that the proved program plan_queue prints; mistakes and refusals as a user meets them."""
+import collections
 import os
 import pathlib
 import pty
@@ -36,7 +37,27 @@ place  job  kind   finish
 One cutter alone: last finish 70 s
 Two cutters: last finish 30 s, saved 40 s (57.1 %)
 """
+NEVER_TEXT = A_TEXT.replace("40", "never")      # 1 is never cut after 2, so that of A's orders 1 3 2 is left
+NEVER_DRAWN = """\
+jobs 3, kinds 2, goal 1, shift 60, start 0
+
+place  job  kind   finish
+    1    1     1       10
+    2    3     1       30
+    3    2     2       80
+
+Hand-in order: not permitted (kind 1 after kind 2 is never)
+Best order: last finish 80 s
+
+    job 1        3                 2
+   best 1########1#################2============================================
+   time |--------|--------|--------|--------|--------|--------|--------|--------
+        0 s      10 s     20 s     30 s     40 s     50 s     60 s     70 s
+
+1## kind 1  2== kind 2
+"""
 checks = 0
+met = collections.Counter()     # pictures without the hand-in order, and splits that one cutter alone has no order for
 
 
 def check(fine, *said):
@@ -78,17 +99,23 @@ def check_text(queue, plan, finishes, columns):
     said = "\n".join(lines)
     check(max(map(len, lines)) <= columns, "columns", columns, said)
     check(places(lines) == finishes, "table", said, finishes)
-    before, by_hand = queue.start, [[0, 0]]
+    before, by_hand, never = queue.start, [[0, 0]], ""
     for kind in queue.jobs:
+        if queue.gaps[before][kind - 1] == 65536 and not never:
+            never = "not permitted (kind %d %s is never)" % (kind, "after kind %d" % before if before else "on a cold cutter")
         by_hand.append([kind, by_hand[-1][1] + queue.gaps[before][kind - 1]])
         before = kind
     best = [[0, 0]] + [[kind, end] for _, _, kind, end in finishes]
-    total = max(by_hand[-1][1], best[-1][1])
+    total = best[-1][1] if never else max(by_hand[-1][1], best[-1][1])
+    check(("Hand-in order: " + never if never else "Best order: ") in said.replace("\n", " "), never, said)
+    check(bool(never) == ("is never" in said.replace("\n", " ")), never, said)
+    met["no hand-in"] += bool(never)
     if total == 0:
         return check("No time line" in said.replace("\n", " "), said)
     drawn = picture.as_text(queue, plan, columns)
     drawn = drawn[drawn.index(""):]
-    for name, ends in (("hand-in", by_hand), ("best", best)):
+    check(bool(strip(drawn, "hand-in", columns - 8)) == (not never), "a row of the hand-in order", said)
+    for name, ends in (("hand-in", by_hand), ("best", best))[bool(never):]:
         row = strip(drawn, name, columns - 8).ljust(len(strip(drawn, "time", columns - 8)))
         begins = [begin * len(row) // total for _, begin in ends]
         expected = [(at, str(kind)) for (kind, _), at, to in zip(ends[1:], begins, begins[1:]) if at < to]
@@ -100,7 +127,7 @@ def check_text(queue, plan, finishes, columns):
 
 
 def check_svg(queue, plan, finishes):
-    """The bars of the SVG stand where the finishes say; the best order's are the second half."""
+    """The bars of the SVG stand where the finishes say; the best order's are the second half, or all there are."""
     said = picture.as_svg(queue, plan)
     drawn = xml.fromstring(said)
     space = "{http://www.w3.org/2000/svg}"
@@ -108,20 +135,22 @@ def check_svg(queue, plan, finishes):
     ends = [0] + [end for *_, end in finishes]
     if not bars:
         return check("No time line" in said, said)
-    check(len(bars) == 2 * len(finishes), "bars", len(bars))
-    by_hand = int(bars[len(finishes) - 1][0].split()[-2])
+    never = "is never)" in said
+    check(len(bars) == (1 if never else 2) * len(finishes), "bars", len(bars))
+    by_hand = 0 if never else int(bars[len(finishes) - 1][0].split()[-2])
     scale = (float(drawn.attrib["width"]) - 40) / max(ends[-1], by_hand)
-    for (place, job, kind, end), begin, (title, box) in zip(finishes, ends, bars[len(finishes):]):
+    for (place, job, kind, end), begin, (title, box) in zip(finishes, ends, bars[-len(finishes):]):
         check(title == "place %d: job %d, kind %d, from %d s to %d s" % (place, job, kind, begin, end), title)
         check(abs(float(box["x"]) - 20 - begin * scale) < 0.1, title, box)
         check(abs(float(box["width"]) - (end - begin) * scale) < 0.1, title, box)
 
 
 def random_text(chance):
-    """A queue that plan_queue's table is long enough for; shift 60 and all places, so that it has an order."""
-    kinds, longest = chance.randint(1, 5), chance.choice([0, 1, 9, 300, 65535])
+    """A queue that plan_queue's table is long enough for; shift 60 and all places, so that only a never leaves no order."""
+    kinds, longest, nevers = chance.randint(1, 5), chance.choice([0, 1, 9, 300, 65535]), chance.choice([0, 0, 0.1, 0.4])
     lines = ["goal %d" % chance.randint(1, 2), "start %d" % chance.randint(0, kinds)]
-    lines += ["gaps " + " ".join(str(chance.randint(0, longest)) for _ in range(kinds)) for _ in range(kinds + 1)]
+    lines += ["gaps " + " ".join("never" if chance.random() < nevers else str(chance.randint(0, longest)) for _ in range(kinds))
+              for _ in range(kinds + 1)]
     lines += ["pupils " + " ".join(str(chance.randint(0, 9)) for _ in range(kinds))]
     lines += ["jobs " + " ".join(str(chance.randint(1, kinds)) for _ in range(chance.randint(0, 18)))]
     return "\n".join(lines)
@@ -131,6 +160,7 @@ def check_pictures():
     check(tool(["plan", CASE_A])[1] == A_DRAWN, "case A is drawn otherwise", tool(["plan", CASE_A])[1])
     check(tool(["plan"], A_TEXT.encode() + b"shift 1")[1] == A_DRAWN, "A's text is drawn otherwise")
     check(tool(["draw", CHAPTER5])[1] == (ROOT / "docs" / "chapter5.svg").read_text(), "docs/chapter5.svg is not what draw gives")
+    check(tool(["plan"], NEVER_TEXT.encode())[1] == NEVER_DRAWN, "a never is drawn otherwise", tool(["plan"], NEVER_TEXT.encode())[1])
     chance = random.Random(1)
     messages = [path.read_bytes() for path in sorted((ROOT / "examples").glob("*.queue"))]
     messages += [queue_text.pack(random_text(chance))[0] for _ in range(200)]
@@ -146,6 +176,9 @@ def check_pictures():
     check("Not permitted: job 2 of kind 2 may only stand at places 3 to 60" in said and "20 s less" in said, said)
     said = tool(["plan"], A_TEXT.replace("3 1", "0 0").encode() + b"goal 2")[1]
     check("total waiting 0 pupil-seconds, nothing saved" in said, said)
+    said = tool(["plan"], A_TEXT.replace("10 10", "never 10").encode())[1]
+    check("Hand-in order: not permitted (kind 1 on a cold cutter is never)\nBest order: last finish 70 s\n" in said, said)
+    check(met["no hand-in"] > 50, "pictures without the hand-in order", met)
 
 
 def check_split(message, second):
@@ -161,10 +194,13 @@ def check_split(message, second):
         costs.append(sum(end * (queue.pupils[kind - 1] if queue.goal == 2 else place == len(rows)) for place, _, kind, end in rows))
         wanted += rows
     check(split.cost == (max(costs) if queue.goal == 1 else sum(costs)), "the cost", split, costs)
-    alone = queue_text.plan_of(message, None)[1].cost
+    alone = queue_text.alone_of(message, None)
+    check((alone is None) == (queue_text.ask(message)[0] == 17), "one cutter alone", alone)
+    met["split alone"] += alone is None
     for columns in (20, 25, 80):
         lines = picture.split_table(queue, second, split, alone, columns)
         check(places(lines) == wanted and max(map(len, lines)) <= columns, "split", "\n".join(lines), wanted)
+        check(("no order is permitted" in " ".join(lines)) == (alone is None), "one cutter alone", "\n".join(lines))
 
 
 def check_splits():
@@ -175,9 +211,13 @@ def check_splits():
     said = tool(["split", 2, ROOT / "examples" / "case-g.queue"])[1]
     check("First cutter: no jobs\n\nSecond cutter: no jobs\n" in said and "last finish 0 s, nothing saved" in said, said)
     chance = random.Random(2)
-    for message in [queue_text.pack(random_text(chance))[0] for _ in range(100)]:
-        if queue_text.ask(message, 8192)[0] == 0:  # as plan_queue can
-            check_split(message, chance.randint(0, len(queue_text.read_queue(message).pupils)))
+    for message in [queue_text.pack(random_text(chance))[0] for _ in range(100)] + [queue_text.pack(ALONE)[0]]:
+        second = chance.randint(0, len(queue_text.read_queue(message).pupils))
+        if queue_text.ask(message, 8192, second)[0] == 0:  # as plan_queue can
+            check_split(message, second)
+    check(met["split alone"] > 0, "splits that one cutter has no order for", met)
+    said = tool(["split", 0], ALONE.encode())[1]
+    check(said.endswith("One cutter alone: no order is permitted\nTwo cutters: last finish 30 s\n"), said)
     for text, second, *expected in UNSPLIT:
         status, said, errors = tool(["split", second], text.encode())
         check(status == 1 and not said and errors.startswith("queue_text: " + expected[0]) and errors.count("\n") == 1, text, errors)
@@ -223,6 +263,9 @@ def check_colours():
     check(in_terminal(NO_COLOR="1") == A_DRAWN, "NO_COLOR")
 
 
+ALONE = A_TEXT.replace("50", "never").replace("40", "never")    # 1 and 2 never side by side
+
+
 MISTAKES = [
     (A_TEXT + "gaol 1", "line 6: one of goal, "),
     (A_TEXT + "shift", "line 6: one number "),
@@ -235,7 +278,13 @@ MISTAKES = [
     (A_TEXT.replace("pupils", "#"), "line 6: a line of pupils "),
     (A_TEXT + "places 1-60", "line 6: first and last "),
     (A_TEXT.replace("1 2 1", "1 7 1"), "line 5: refused 13: "),
-    (A_TEXT.replace("50", "65536"), "line 2: refused 9: "),
+    (A_TEXT.replace("50", "65536"), "line 2: 65536 is how a message says never: write never"),
+    (A_TEXT.replace("50", "never 65536"), "line 2: 65536 "),
+    (A_TEXT.replace("50", "65537"), "line 2: refused 9: "),
+    (A_TEXT.replace("50", "nevr"), "line 2: numbers "),
+    (A_TEXT.replace("3 1", "never 1"), "line 4: numbers "),
+    (A_TEXT.replace("20 50", "never"), "line 2: 2 gaps "),
+    (ALONE, "refused 17: "),
     (A_TEXT + "goal 3", "line 6: refused 6: "),
     (A_TEXT + "start 3", "line 6: refused 8: "),
     (A_TEXT + "shift 61", "line 6: refused 7: "),
@@ -265,6 +314,7 @@ UNSPLIT = [
     (A_TEXT, 3, "refused 20: ", "The second start is 3, and the kinds are 2."),
     (A_TEXT, 2**32, "refused 20: ", "The second start is 4294967296"),
     (A_TEXT.replace("1 2 1", "1 7 1"), 3, "line 5: refused 13: "),
+    (ALONE.replace("20", "never"), 0, "refused 17: "),
     ("Q2", 0, "a split plan; a queue "),
 ]
 

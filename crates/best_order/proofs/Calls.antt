@@ -9,6 +9,7 @@ use native.Mathlib.Omega.{arith}
 use lib.ListN.{length, take, drop}
 use lib.Seq.{sets, length-sets}
 use Rattle.refusal.specs.declared.Reason.{Reason}
+use Rattle.refusal.specs.declared.Reason.the-variants.{NoOrder}
 use Rattle.refusal.specs.declared.Answer.the-variants.{Refused}
 use Rattle.refusal.specs.Reasons.{reasonNumber, needed}
 use Rattle.refusal.specs.Answers.{answerNumber}
@@ -54,6 +55,10 @@ module _ {q : Queue} {f : Option ℕ → Ending} (by : ByCost q f) where
   pub cost-17 : (r : Option ℕ) → (answerNumber (answerOf (f r)) ≡ 17) ↔ (r ≡ none)
   cost-17 none = ((λ _. refl), (λ _. rw (by .on-none) refl))
   cost-17 (some c) = ((λ a. absurd (omega (arith, rw (by .on-some c .1) at a))), (λ e. absurd (none-some c (sym e))))
+
+  -- by the answer itself
+  pub cost-none : (r : Option ℕ) → (answerOf (f r) ≡ Refused NoOrder) ↔ (r ≡ none)
+  cost-none r = ((λ a. cost-17 r .0 (ap answerNumber a)), (λ e. rw (e, by .on-none) refl))
 
 -- ---- what is left
 

@@ -3,8 +3,7 @@
 use Prim.Native.Nat.{ℕ, _≤_, _<_}
 use mathlib.Core.List.{List}
 use mathlib.Core.Logic.{_↔_, _≢_}
-use mathlib.Core.Option.{none}
-use mathlib.Core.Path.{_≡_, refl, ap}
+use mathlib.Core.Path.{_≡_, refl}
 use native.Mathlib.Omega.{arith}
 use Rattle.refusal.specs.declared.Reason.{Reason}
 use Rattle.refusal.specs.declared.Reason.the-variants.{Buffer, Table, NoOrder}
@@ -12,7 +11,6 @@ use Rattle.refusal.specs.declared.Verdict.the-variants.{Accepted, Refused as No
 use Rattle.refusal.specs.declared.Answer.{Answer}
 use Rattle.refusal.specs.declared.Answer.the-variants.{Refused}
 use Rattle.refusal.specs.Reasons.{reasonNumber}
-use Rattle.refusal.specs.Answers.{answerNumber}
 use Rattle.refusal.proofs.Reasons.{OfMessage}
 use Rattle.queue.specs.declared.Queue.{Queue}
 use Rattle.queue.specs.Reading.{readQueue}
@@ -24,7 +22,7 @@ use Rattle.sequencing.specs.Entries.{entries}
 use Rattle.problem.specs.OfQueue.{problem}
 use Rattle.problem.proofs.Queues.{none-permitted}
 use Rattle.best_order.specs.Endings.{Ending, ifAccepted, roomVerdict, solved, endingOf, ending, answerOf, filledFor, tableOf}
-use Rattle.best_order.proofs.Calls.{only-17, cost-fills, cost-17}
+use Rattle.best_order.proofs.Calls.{only-17, cost-fills, cost-none}
 use Rattle.best_order.proofs.Checks.{refused-here, refused-later, never-refused, through, then, then-three, then-both}
 use Rattle.best_order.proofs.Endings.{room-not, buffer-verdict, table-verdict, room-verdict, solved-by-cost}
 
@@ -91,12 +89,9 @@ module _ (s : List ℕ) (n room : ℕ) where
   table-exactly needed = then-three (after-message s (endingOf q n room) (Table needed) (λ own. own .not-table refl))
       (λ _. lent-table (entries (problem q)) n room last fills needed)
 
-  none-exactly : (answerOf last ≡ Refused NoOrder) ↔ (planCost (problem q) ≡ none)
-  none-exactly = ((λ a. cost-17 (solved-by-cost q) (planCost (problem q)) .0 (ap answerNumber a)), (λ e. rw e refl))
-
   -- 17
   pub order-exactly : (answer ≡ Refused NoOrder)
       ↔ ((readQueue s .verdict ≡ Accepted) × (77 ≤ room) × (entries (problem q) ≤ n) × ((o : List ℕ) → IsOrder (problem q) o → Permitted (problem q) o → ⊥))
   unfolding ending endingOf
   order-exactly = then-three (after-message s (endingOf q n room) NoOrder (λ own. own .not-order refl))
-      (λ h. lent-none (entries (problem q)) n room last fills (through none-exactly (none-permitted q (accepted-valid s h))))
+      (λ h. lent-none (entries (problem q)) n room last fills (through (cost-none (solved-by-cost q) (planCost (problem q))) (none-permitted q (accepted-valid s h))))

@@ -20,7 +20,7 @@ use Rattle.problem.specs.OfQueue.{problem}
 use Rattle.problem.proofs.Rule.{proper, few-jobs}
 use Rattle.splitting.specs.Splits.{IsSplit, splitCost}
 use Rattle.splitting.specs.Taken.{takenCost, takenCounts, firstOrder, secondOrder}
-use Rattle.splitting.proofs.Best.{taken, is-split, split-costs, split-least}
+use Rattle.splitting.proofs.Best.{taken, is-split, split-permitted, split-costs, split-least}
 use Rattle.splitting.proofs.Queues.{taken-fits}
 use Rattle.best_order.proofs.Orders.{order-in}
 use Rattle.best_split.specs.Endings.{bestSplit}
@@ -86,6 +86,7 @@ module _ (q : Queue) (v : Valid q) (s c : ℕ) (e : takenCost (problem q) s ≡ 
       first = first;
       second = second;
       split = rw (first, second) split;
-      best = λ a b i. rw (first, second, own) (split-least P (proper q v) s c e a b i);
+      permitted = rw (first, second) (split-permitted P (proper q v) s c e);
+      best = λ a b i g. rw (first, second, own) (split-least P (proper q v) s c e a b i g);
       own-cost = rw (first, second) (sym own);
     }

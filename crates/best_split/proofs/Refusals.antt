@@ -1,10 +1,10 @@
--- Each of splitting's refusals is given exactly under its condition, and 17 never.
+-- Each of splitting's refusals is given exactly under its condition, and 17 never where nothing is forbidden.
 -- Assumes nothing.
 use Prim.Native.Nat.{ℕ, _≤_, _<_}
 use mathlib.Core.Bool.{false}
 use mathlib.Core.List.{List}
 use mathlib.Core.Logic.{_↔_, _≢_}
-use mathlib.Core.Path.{_≡_, refl, ap}
+use mathlib.Core.Path.{_≡_, refl}
 use native.Mathlib.Omega.{arith}
 use lib.Dec.{T as Is}
 use Rattle.refusal.specs.declared.Reason.{Reason}
@@ -13,23 +13,22 @@ use Rattle.refusal.specs.declared.Verdict.the-variants.{Accepted, Refused as No
 use Rattle.refusal.specs.declared.Answer.{Answer}
 use Rattle.refusal.specs.declared.Answer.the-variants.{Refused}
 use Rattle.refusal.specs.Reasons.{reasonNumber}
-use Rattle.refusal.specs.Answers.{answerNumber}
 use Rattle.queue.specs.declared.Queue.{Queue}
-use Rattle.queue.specs.Record.{Valid}
 use Rattle.queue.specs.Reading.{readQueue}
 use Rattle.queue.specs.Refusals.{QueueRefusal}
 use Rattle.queue_laws.proofs.Theorems.{accepted-valid, queue-of-message}
+use Rattle.sequencing.specs.Problem.{NoneForbidden}
 use Rattle.sequencing.specs.Entries.{entries}
 use Rattle.problem.specs.OfQueue.{problem}
 use Rattle.problem.proofs.Rule.{proper}
+use Rattle.splitting.specs.Splits.{IsSplit, SplitPermitted}
 use Rattle.splitting.specs.Taken.{takenCost}
 use Rattle.splitting.specs.Covers.{covers}
-use Rattle.splitting.proofs.Best.{always-split}
-use Rattle.best_order.specs.Endings.{Ending, roomVerdict, answerOf, filledFor, tableOf}
-use Rattle.best_order.proofs.Calls.{cost-fills, cost-17}
+use Rattle.splitting.proofs.Best.{no-split, always-split}
+use Rattle.best_order.specs.Endings.{Ending, answerOf, filledFor, tableOf}
+use Rattle.best_order.proofs.Calls.{cost-fills, cost-none}
 use Rattle.best_order.proofs.Checks.{refused-here, refused-later, never-refused, through, then, then-three, then-both}
-use Rattle.best_order.proofs.Endings.{room-not}
-use Rattle.best_order.proofs.Refusals.{after-message, lent-not, lent-buffer, lent-table}
+use Rattle.best_order.proofs.Refusals.{after-message, lent-not, lent-buffer, lent-table, lent-none}
 use Rattle.best_split.specs.Endings.{benchVerdict, divided, dividedIn, splitEndingOf, splitEnding}
 use Rattle.best_split.proofs.Endings.{bench-not, uncovered-verdict, second-verdict, bench-verdict, divided-by-cost}
 
@@ -52,7 +51,7 @@ module _ (s : List ℕ) (second n room : ℕ) where
   unfolding splitEndingOf
   on-bench r x y z = refused-here (benchVerdict q second) (dividedIn q second n room) r (lent-not (entries (problem q)) n room last fills r x y z)
 
-  -- 15 and 16 by what is lent, once two cutters can have the queue
+  -- 15 to 17 by what is lent and what is found, once two cutters can have the queue
   past-bench : {F : Type 0} (r : Reason) → reasonNumber r ≢ 19 → reasonNumber r ≢ 20 → (answerOf (dividedIn q second n room) ≡ Refused r) ↔ F
       → (answerOf (splitEndingOf q second n room) ≡ Refused r) ↔ (Is (covers q) × (second ≤ q .kinds) × F)
   unfolding splitEndingOf
@@ -92,14 +91,18 @@ module _ (s : List ℕ) (second n room : ℕ) where
   table-exactly needed = then-three (after-message s (splitEndingOf q second n room) (Table needed) (λ own. own .not-table refl))
       (λ _. past-bench (Table needed) (omega arith) (omega arith) (lent-table (entries (problem q)) n room last fills needed))
 
-  never-none : Valid q → answerOf last ≢ Refused NoOrder
-  never-none v a = always-split (problem q) (proper q v) second (cost-17 (divided-by-cost q second) (takenCost (problem q) second) .0 (ap answerNumber a))
-
-  -- 17: there always is a split
-  pub never-17 : answer ≢ Refused NoOrder
+  -- 17
+  pub order-exactly : (answer ≡ Refused NoOrder)
+      ↔ ((readQueue s .verdict ≡ Accepted) × Is (covers q) × (second ≤ q .kinds) × ((77 ≤ room) × (entries (problem q) ≤ n)
+      × ((o₁ o₂ : List ℕ) → IsSplit (problem q) o₁ o₂ → SplitPermitted (problem q) second o₁ o₂ → ⊥)))
   unfolding splitEnding splitEndingOf
-  never-17 a =
-      let (h, b) = after-message s (splitEndingOf q second n room) NoOrder (λ own. own .not-order refl) .0 a in
-      never-refused (benchVerdict q second) (dividedIn q second n room) NoOrder (bench-not q second NoOrder (omega arith) (omega arith))
-      (never-refused (roomVerdict (entries (problem q)) n room) last NoOrder (room-not (entries (problem q)) n room NoOrder (omega arith) (omega arith))
-      (never-none (accepted-valid s h))) b
+  order-exactly = then-three (after-message s (splitEndingOf q second n room) NoOrder (λ own. own .not-order refl))
+      (λ h. past-bench NoOrder (omega arith) (omega arith)
+      (lent-none (entries (problem q)) n room last fills (through (cost-none (divided-by-cost q second) (takenCost (problem q) second)) (no-split (problem q) (proper q (accepted-valid s h)) second))))
+
+  -- so never where nothing is forbidden
+  pub never-17 : NoneForbidden (problem q) → answer ≢ Refused NoOrder
+  never-17 free a =
+      let (h, c, l, x) = order-exactly .0 a in
+      let v = accepted-valid s h in
+      always-split (problem q) (proper q v) second free (v .start) l (no-split (problem q) (proper q v) second .1 (x .2))

@@ -15,7 +15,7 @@ use Rattle.split_plan.specs.Writing.{message}
 use Rattle.sequencing.specs.Problem.{Problem}
 use Rattle.sequencing.specs.Entries.{entries}
 use Rattle.problem.specs.OfQueue.{problem}
-use Rattle.splitting.specs.Splits.{IsSplit, splitCost}
+use Rattle.splitting.specs.Splits.{IsSplit, SplitPermitted, splitCost}
 use Rattle.splitting.specs.Shares.{shareOrder, firstShare, secondShare}
 use Rattle.splitting.specs.Taken.{Taken}
 use Rattle.splitting.specs.Covers.{covers}
@@ -35,22 +35,26 @@ pub record BestSplitPlan (P : Problem) (s : ℕ) (plan : SplitPlan) : Type 0 whe
   pub second : jobList (plan .second) ≡ shareOrder P s (secondShare P counts)
   -- each job goes to one cutter
   pub split : IsSplit P (jobList (plan .first)) (jobList (plan .second))
-  -- every split, in any order on either cutter, costs at least as much
-  pub best : (o₁ o₂ : List ℕ) → IsSplit P o₁ o₂ → splitCost P s (jobList (plan .first)) (jobList (plan .second)) ≤ splitCost P s o₁ o₂
+  -- on neither cutter is a succession forbidden
+  pub permitted : SplitPermitted P s (jobList (plan .first)) (jobList (plan .second))
+  -- every split so permitted, in any order on either cutter, costs at least as much
+  pub best : (o₁ o₂ : List ℕ) → IsSplit P o₁ o₂ → SplitPermitted P s o₁ o₂
+      → splitCost P s (jobList (plan .first)) (jobList (plan .second)) ≤ splitCost P s o₁ o₂
   -- the stated cost is that split's own
   pub own-cost : plan .cost ≡ splitCost P s (jobList (plan .first)) (jobList (plan .second))
 
 -- a message and the second start, the table and the buffer before and after, and the answer R + 256 × V
 pub record Best (bytes : List ℕ) (s : ℕ) (table buffer table′ buffer′ : List ℕ) (answer : ℕ) : Type 0 where
-  -- 17 exactly when there is no split
-  pub none-left : (answer ≡ 17) ↔ ((o₁ o₂ : List ℕ) → IsSplit (problem (readQueue bytes .queue)) o₁ o₂ → ⊥)
+  -- 17 exactly when no split is permitted
+  pub none-left : (answer ≡ 17)
+      ↔ ((o₁ o₂ : List ℕ) → IsSplit (problem (readQueue bytes .queue)) o₁ o₂ → SplitPermitted (problem (readQueue bytes .queue)) s o₁ o₂ → ⊥)
   -- otherwise n bytes are written, and they are the message of the best split's plan
   pub otherwise : answer ≢ 17 → (n : ℕ) × (plan : SplitPlan) × (answer ≡ 256 * n) × (n ≤ length buffer′) × (take n buffer′ ≡ message plan)
       × BestSplitPlan (problem (readQueue bytes .queue)) s plan
   -- bytes behind the plan, and on 17 all bytes, are as before
   pub behind : (n : ℕ) → answer ≡ 256 * n → drop n buffer′ ≡ drop n buffer
   pub unwritten : answer ≡ 17 → buffer′ ≡ buffer
-  -- either way the table is the one that planning the message for one cutter leaves
+  -- either way the table is the one that planning the message for one cutter leaves, with a plan or with 17
   pub as-planned : LeavesTable (tableOf (endingOn bytes table buffer)) table table′
 
 -- S-1's promise, of a message and the second start, what is lent before and after, and the answer

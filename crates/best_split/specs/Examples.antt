@@ -1,4 +1,4 @@
--- 01's case A as calls of splitting on bytes: the answer, what becomes of the table, and the buffer then.
+-- 01's case A, also with successions forbidden, as calls of splitting on bytes: the answer, what becomes of the table, and the buffer then.
 use Prim.Native.Nat.{ℕ, _+_, _*_}
 use mathlib.Core.List.{List, [], _∷_, flatMap}
 use mathlib.Core.Path.{_≡_, refl}
@@ -16,10 +16,11 @@ use Rattle.sequencing.specs.States.{jobsOf, allLeft, byHandIn}
 use Rattle.sequencing.specs.Least.{least, argLeast}
 use Rattle.sequencing.specs.Recursion.{W, toGo, value, choice, walk, planCost, planKinds, planOrder}
 use Rattle.sequencing.specs.Entries.{size}
+use Rattle.problem.specs.PlaceRule.{allowed}
 use Rattle.splitting.specs.Shares.{shareOrder, isEarly, firstShare, secondShare}
 use Rattle.splitting.specs.Taken.{leastCost, leastCounts, countsCost, takenCost, takenCounts, firstOrder, secondOrder}
 use Rattle.splitting.specs.Covers.{covers}
-use Rattle.best_order.specs.Endings.{Ending, roomVerdict, answerOf, bufferOf, TableEnding, untouched, filledFor, tableOf}
+use Rattle.best_order.specs.Endings.{Ending, roomVerdict, endingOf, ending, answerOf, bufferOf, TableEnding, untouched, filledFor, tableOf}
 use Rattle.best_split.specs.Endings.{benchVerdict, bestSplit, splitEndingOf, splitEnding}
 
 -- A, but for its shift
@@ -28,11 +29,30 @@ A m =
     0x51 ∷ 0x53 ∷ 0x01 ∷ 0x02 ∷ 0x01 ∷ m ∷ 0x00 ∷ 0x0A ∷ 0x0A ∷ 0x14 ∷ 0x32 ∷ 0x28 ∷ 0x1E
     ∷ 0x03 ∷ 0x01 ∷ 0x01 ∷ 0x3C ∷ 0x01 ∷ 0x3C ∷ 0x03 ∷ 0x01 ∷ 0x02 ∷ 0x01 ∷ []
 
+-- A at shift 4 with rows 1 and 2 all never, but for its jobs: none may follow another
+abbrev apart : (jobs : List ℕ) → List ℕ
+apart jobs =
+    0x51 ∷ 0x53 ∷ 0x01 ∷ 0x02 ∷ 0x01 ∷ 0x04 ∷ 0x00 ∷ 0x0A ∷ 0x0A
+    ∷ 0x80 ∷ 0x80 ∷ 0x04 ∷ 0x80 ∷ 0x80 ∷ 0x04 ∷ 0x80 ∷ 0x80 ∷ 0x04 ∷ 0x80 ∷ 0x80 ∷ 0x04
+    ∷ 0x03 ∷ 0x01 ∷ 0x01 ∷ 0x3C ∷ 0x01 ∷ 0x3C ∷ jobs
+
+abbrev two : List ℕ
+two = apart (0x02 ∷ 0x01 ∷ 0x02 ∷ [])
+
+abbrev three : List ℕ
+three = apart (0x03 ∷ 0x01 ∷ 0x02 ∷ 0x01 ∷ [])
+
 -- R + 256 × V, what becomes of a table of n entries, and a buffer of so many nines then; s is the second cutter's start kind
 abbrev left : List ℕ → (s n room : ℕ) → ℕ × TableEnding × List ℕ
 left bytes s n room =
     let e : Ending = splitEnding (readQueue bytes) s n room in
     (answerNumber (answerOf e), tableOf e, bufferOf e (replicate room 9))
+
+-- planning for one cutter: R + 256 × V, and what becomes of the table
+abbrev alone : List ℕ → (n room : ℕ) → ℕ × TableEnding
+alone bytes n room =
+    let e : Ending = ending (readQueue bytes) n room in
+    (answerNumber (answerOf e), tableOf e)
 
 pub record Examples : Type 0 where
   -- with every place permitted, the second cutter cold: cost 30, job 2 on the first, jobs 1 and 3 on the second
@@ -52,9 +72,18 @@ pub record Examples : Type 0 where
   -- 15 before 16, and 16 with the 12 entries that are needed
   pub short : left (A 4) 2 11 76 ≡ (15, untouched, replicate 76 9)
   pub eleven : left (A 4) 2 11 77 ≡ (16 + 256 * 12, untouched, replicate 77 9)
+  -- two jobs, neither of which may follow the other: 17 for one cutter, a job for each of two, and the table is filled alike
+  pub two-alone : alone two 8 77 ≡ (17, filledFor (readQueue two .queue))
+  pub two-apart : left two 0 8 77
+      ≡ (256 * 9, filledFor (readQueue two .queue), 0x51 ∷ 0x32 ∷ 0x01 ∷ 0x01 ∷ 0x0A ∷ 0x01 ∷ 0x02 ∷ 0x01 ∷ 0x01 ∷ replicate 68 9)
+  -- 17 where the second cutter is warm, or with a third job; 15 and 16 before it
+  pub two-warm : left two 2 8 77 ≡ (17, filledFor (readQueue two .queue), replicate 77 9)
+  pub three-apart : left three 0 12 77 ≡ (17, filledFor (readQueue three .queue), replicate 77 9)
+  pub three-short : left three 0 11 76 ≡ (15, untouched, replicate 76 9)
+  pub three-eleven : left three 0 11 77 ≡ (16 + 256 * 12, untouched, replicate 77 9)
 
 pub examples : Examples
-unfolding readQueue queue head settings tables jobs placed opens groupsAt groups encode tabulate flatMap message splitEnding splitEndingOf benchVerdict roomVerdict bestSplit covers all takenCost takenCounts firstOrder secondOrder countsCost leastCost leastCounts isEarly firstShare secondShare shareOrder planCost planKinds planOrder value toGo choice walk byHandIn least argLeast W allLeft jobsOf sum weigh filter from size times
+unfolding readQueue queue head settings tables jobs placed opens groupsAt groups encode tabulate flatMap message ending endingOf splitEnding splitEndingOf benchVerdict roomVerdict bestSplit allowed covers all takenCost takenCounts firstOrder secondOrder countsCost leastCost leastCounts isEarly firstShare secondShare shareOrder planCost planKinds planOrder value toGo choice walk byHandIn least argLeast W allLeft jobsOf sum weigh filter from size times
 examples = record {
   cold = refl;
   after-2 = refl;
@@ -65,4 +94,10 @@ examples = record {
   second-start-first = refl;
   short = refl;
   eleven = refl;
+  two-alone = refl;
+  two-apart = refl;
+  two-warm = refl;
+  three-apart = refl;
+  three-short = refl;
+  three-eleven = refl;
 }

@@ -1,4 +1,4 @@
--- 01's small queues A to H as calls of planning on bytes: the answer, and the bytes of the plan, or what a refusal leaves.
+-- 01's small queues A to H, and A with nevers, as calls of planning on bytes: the answer, and the bytes of the plan, or what a refusal leaves.
 use Prim.Native.Nat.{ℕ, _+_, _-_, _*_, _^_}
 use mathlib.Core.List.{List, [], _∷_, _++_, flatMap}
 use mathlib.Core.Path.{_≡_, refl}
@@ -36,6 +36,10 @@ G = take 19 A ++ (0x00 ∷ [])
 -- kinds 2 1, all gaps 0, m 1
 abbrev H : List ℕ
 H = take 7 A ++ replicate 6 0 ++ drop 13 (take 19 A) ++ (0x02 ∷ 0x02 ∷ 0x01 ∷ [])
+
+-- a message with 02's never in place of the byte at a position
+abbrev never : ℕ → List ℕ → List ℕ
+never i message = take i message ++ (0x80 ∷ 0x80 ∷ 0x04 ∷ []) ++ drop (i + 1) message
 
 -- R + 256 × V, and the first bytes of a buffer of 77 zeros then
 abbrev planned : List ℕ → (entries bytes : ℕ) → ℕ × List ℕ
@@ -80,6 +84,10 @@ pub record Planning : Type 0 where
   -- G: cost 0, kept 0, N entries
   pub G-plan : planned G 2 7 ≡ (256 * 7, 0x51 ∷ 0x50 ∷ 0x01 ∷ 0x01 ∷ 0x00 ∷ 0x00 ∷ 0x00 ∷ [])
   pub G-one : left G 1 77 ≡ (16 + 256 * 2, 7 ∷ [], replicate 77 9)
+  -- A without 1 after 2: cost 80, kept 5, order 1 3 2; without 1 after 1 or 2, 17
+  pub never-plan : planned (never 11 A) 12 10 ≡ (256 * 10, 0x51 ∷ 0x50 ∷ 0x01 ∷ 0x01 ∷ 0x50 ∷ 0x05 ∷ 0x03 ∷ 0x01 ∷ 0x03 ∷ 0x02 ∷ [])
+  pub never-none : left (never 9 (never 11 A)) 13 77
+      ≡ (17, 0 ∷ none ∷ none ∷ 50 ∷ none ∷ none ∷ 0 ∷ replicate 5 none ++ (7 ∷ []), replicate 77 9)
   -- H: order 2 1
   pub H-plan : planned H 8 9 ≡ (256 * 9, 0x51 ∷ 0x50 ∷ 0x01 ∷ 0x01 ∷ 0x00 ∷ 0x04 ∷ 0x02 ∷ 0x02 ∷ 0x01 ∷ [])
 
@@ -98,5 +106,7 @@ planning = record {
   F-none = refl;
   G-plan = refl;
   G-one = refl;
+  never-plan = refl;
+  never-none = refl;
   H-plan = refl;
 }

@@ -1,26 +1,29 @@
 -- What the code computes from the table's earlier entries is the recursion's.
 -- Assumes nothing.
-use Prim.Native.Nat.{ℕ, zero, suc, _+_, _-_, _*_, _≤_, _<_}
+use Prim.Native.Nat.{ℕ, _+_, _-_, _*_, _≤_, _<_}
 use mathlib.Core.List.{List}
 use mathlib.Core.Logic.{inl, inr}
 use mathlib.Core.Option.{Option, none, some}
-use mathlib.Core.Path.{_≡_, refl, sym, ap, ap₂, _∙_}
+use mathlib.Core.Path.{_≡_, sym, ap, _∙_}
 use native.Mathlib.Nat.{eq-zero-or-pos, mul-le-mul}
 use native.Mathlib.Omega.{arith}
 use lib.Dec.{ltb}
 use lib.ListN.{length, getD}
 use borrow.Author.Tests.{ltb-true}
 use Rattle.number.proofs.Steps.{bool-cases, below-or-not}
+use Rattle.gaps.specs.Gaps.{gapBetween}
 use Rattle.queue.specs.declared.Queue.{Queue}
 use Rattle.queue.specs.Record.{Valid}
 use Rattle.sequencing.specs.Lists.{at}
 use Rattle.sequencing.specs.States.{complete, allLeft}
-use Rattle.sequencing.specs.Least.{lower, least, argLeast}
+use Rattle.sequencing.specs.Least.{least, argLeast}
 use Rattle.sequencing.specs.Recursion.{W, value, choice}
 use Rattle.sequencing.specs.Entries.{digits, stride, block, entries, stored}
 use Rattle.sequencing.proofs.AllJobs.{length-all}
 use Rattle.sequencing.proofs.Entries.{left-digits}
 use Rattle.sequencing.proofs.JobsLeft.{next-pair}
+use Rattle.sequencing.proofs.Least.{least-ext, arg-ext}
+use Rattle.sequencing.proofs.Options.{plusGap-none}
 use Rattle.sequencing.proofs.Radix.{stride-pos}
 use Rattle.sequencing.proofs.Vectors.{at-in}
 use Rattle.problem.specs.OfQueue.{problem}
@@ -35,19 +38,6 @@ use Rattle.next_states.specs.NextStates.{loaded, nextValues, candidate, Loadabl
 use Rattle.next_states.proofs.Stored.{fits, loaded-stored, least-past, arg-past}
 use Rattle.next_states.proofs.Candidates.{loaded-next, length-next}
 use Rattle.filling.specs.Filling.{Earlier}
-
--- ---- the least of what agrees
-
-least-ext : (f g : ℕ → Option ℕ) (n : ℕ) → ((x : ℕ) → 1 ≤ x → x ≤ n → f x ≡ g x) → least f n ≡ least g n
-unfolding least
-least-ext f g zero h = refl
-least-ext f g (suc n) h = ap₂ lower (least-ext f g n (λ x l u. h x l (omega arith))) (h (suc n) (omega arith) (omega arith))
-
-arg-ext : (f g : ℕ → Option ℕ) (n : ℕ) → ((x : ℕ) → 1 ≤ x → x ≤ n → f x ≡ g x) → argLeast f n ≡ argLeast g n
-unfolding argLeast
-arg-ext f g zero h = refl
-arg-ext f g (suc n) h =
-    rw (least-ext f g n (λ x l u. h x l (omega arith)), h (suc n) (omega arith) (omega arith), arg-ext f g n (λ x l u. h x l (omega arith)))
 
 -- ---- a table, looked at from one k
 
@@ -110,7 +100,7 @@ module _ {q : Queue} {l : Layout} {table left : List ℕ} {i : ℕ} (s : Look q 
     unfolding choice
     candidate-is x a b =
         rw (loaded-next table left (l .strides) (l .size .block) i x a b, left-is x a)
-        (elim (bool-cases (ltb 0 (at k x))) [ inl e ↦ rw (e, next-entry x (omega (arith, left-is x a, ltb-true 0 (at k x) e))) | inr e ↦ rw e ])
+        (elim (bool-cases (ltb 0 (at k x))) [ inl e ↦ rw (e, next-entry x (omega (arith, left-is x a, ltb-true 0 (at k x) e))) | inr e ↦ rw e (plusGap-none (W (problem q) k) (gapBetween (q .gaps) row x)) ])
 
     -- there are N kinds
     choice-past : (x : ℕ) → q .kinds < x → choice (problem q) row k x ≡ none

@@ -8,6 +8,7 @@ ghost use mathlib.Core.Bool.{_&&_};
 ghost use Prim.Native.Nat.{_+_, _^_, _≤_, _<_};
 ghost use lib.Dec.{leb};
 ghost use lib.ListN.{length};
+ghost use Rattle.gaps.specs.Gaps.{hasNever};
 ghost use Rattle.queue.specs.Record.{Valid};
 ghost use Rattle.sequencing.specs.Entries.{entries, stored, FilledTable};
 ghost use Rattle.sequencing.specs.Counts.{valued, feasibleStates};
@@ -20,6 +21,7 @@ ghost use Rattle.filling.specs.Filling.{entered, Fillable, StatesFilled}
 fn state_value(
     next: &[u64],
     gaps: &[u32],
+    forbids: bool,
     kind: usize,
     goal: u32,
     weight: u64,
@@ -28,7 +30,7 @@ fn state_value(
     earliest: u8,
     latest: u8,
 ) -> u64
-    requires { ⌜ Ready (now next) (now gaps) kind weight × (goal ≡ 1 → weight ≡ 1) ⌝ }
+    requires { ⌜ Ready (now next) (now gaps) kind weight × ((forbids ≡ hasNever (now gaps)) × (goal ≡ 1 → weight ≡ 1)) ⌝ }
     ensures { λ r. ⌜ r ≡ stored (entered (now (next .entry)) (now (gaps .entry)) weight jobs (leb earliest place && leb place latest) kind) ⌝ }
 {
     if place < earliest as u32 {
@@ -39,6 +41,11 @@ fn state_value(
     }
     if jobs == 0 {
         return 0;
+    }
+    if forbids {
+        let best = next_states::least_open(next, gaps, kind, goal, weight);
+        let cost = best.cost;
+        return cost.number();
     }
     let best = next_states::least_of(next, gaps, kind, goal, weight);
     let cost = best.cost;
@@ -66,11 +73,12 @@ fn fill_states(
     earliest: &[u8],
     latest: &[u8],
     gaps: &[u32],
+    forbids: bool,
     size: Size,
     goal: u32,
     k: JobsLeft,
 ) -> u64
-    requires { ⌜ Fillable (now table) (record { left = now left; strides = now strides; slots = now slots; earliest = now earliest; latest = now latest; gaps = now gaps }) size goal k ⌝ }
+    requires { ⌜ Fillable (now table) (record { left = now left; strides = now strides; slots = now slots; earliest = now earliest; latest = now latest; gaps = now gaps }) size goal k × (forbids ≡ hasNever (now gaps)) ⌝ }
     ensures { λ r. ⌜ StatesFilled (now (table .entry)) (record { left = now (left .entry); strides = now (strides .entry); slots = now (slots .entry); earliest = now (earliest .entry); latest = now (latest .entry); gaps = now (gaps .entry) }) size goal k (now (table .exit)) r ⌝ }
 {
     let kinds = size.kinds;
@@ -86,6 +94,7 @@ fn fill_states(
         let value = state_value(
             &next,
             gaps,
+            forbids,
             kind + 1,
             goal,
             weight,
@@ -115,6 +124,7 @@ pub fn fill(queue: Queue, layout: Layout, table: &mut [u64]) -> u64
     let slots = layout.slots;
     let earliest = layout.earliest;
     let latest = layout.latest;
+    let forbids = layout.forbids;
     let mut left = [0u32; 5];
     let mut k = JobsLeft {
         index: 0,
@@ -132,6 +142,7 @@ pub fn fill(queue: Queue, layout: Layout, table: &mut [u64]) -> u64
                 &earliest,
                 &latest,
                 &gaps,
+                forbids,
                 size,
                 queue.goal,
                 k,

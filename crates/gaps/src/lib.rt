@@ -1,8 +1,20 @@
-// Gaps as a record's array holds them: where each stands, and the look-up.
+// Gaps as a record's array holds them: where each stands, and the look-up, which gives seconds or never.
+use units::Seconds;
+ghost use mathlib.Core.Logic.{_≢_};
 ghost use mathlib.Core.Path.{_≡_};
 ghost use Prim.Native.Nat.{_^_, _<_};
 ghost use lib.ListN.{length};
-ghost use Rattle.gaps.specs.Gaps.{gapRow, gapIndex, gapAt};
+ghost use Rattle.gaps.specs.declared.Gap.the-variants.{Lasting, Never};
+ghost use Rattle.gaps.specs.Gaps.{gapRow, gapIndex, gapBetween, hasNever};
+
+// 02's gap: seconds, or never, where the succession is forbidden.
+pub enum Gap {
+    Lasting(Seconds),
+    Never,
+}
+
+// The number that records and messages write for never. It is compared and never counted with.
+const NEVER: u32 = 65536;
 
 // Where the gaps of a row (a kind, or 0 for the cold cutter) begin.
 pub fn row_start(row: usize) -> usize
@@ -23,11 +35,38 @@ pub fn gap_index(row: usize, kind: usize) -> usize
     row_start(row) + (kind - 1)
 }
 
-// The gap from a row to a kind. A kind of 0, or past N, gets the number that stands where its gap would, not 0.
-pub fn gap_after(gaps: &[u32], row: usize, kind: usize) -> u32
+// Whether any gap is never, which a call finds out once.
+pub fn has_never(gaps: &[u32]) -> bool
+    ensures { λ r. ⌜ r ≡ hasNever (now (gaps .entry)) ⌝ }
+{
+    let mut i: usize = 0;
+    while i < gaps.len() {
+        if gaps[i] == NEVER {
+            return true;
+        }
+        i = i + 1;
+    }
+    false
+}
+
+// The gap from a row to a kind. A kind of 0, or past N, gets the gap that stands where its own would.
+pub fn gap_after(gaps: &[u32], row: usize, kind: usize) -> Gap
     requires { ⌜ gapIndex row kind < length (now gaps) ⌝ }
-    ensures { λ r. ⌜ r ≡ gapAt (now (gaps .entry)) row kind ⌝ }
+    ensures { λ r. ⌜ r ≡ gapBetween (now (gaps .entry)) row kind ⌝ }
 {
     let at = gap_index(row, kind);
-    gaps[at]
+    let number = gaps[at];
+    if number == NEVER {
+        return Gap::Never;
+    }
+    Gap::Lasting(Seconds(number as u64))
+}
+
+// The same where it is known not to be never: nothing is compared.
+pub fn seconds_after(gaps: &[u32], row: usize, kind: usize) -> Seconds
+    requires { ⌜ (gapIndex row kind < length (now gaps)) × (gapBetween (now gaps) row kind ≢ Never) ⌝ }
+    ensures { λ r. ⌜ gapBetween (now (gaps .entry)) row kind ≡ Lasting r ⌝ }
+{
+    let at = gap_index(row, kind);
+    Seconds(gaps[at] as u64)
 }

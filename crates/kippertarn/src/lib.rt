@@ -104,5 +104,5 @@ pub extern "C" fn kippertarn_split(
 pub extern "C" fn kippertarn_version() -> u64
     ensures { λ r. ⌜ r ≡ version ⌝ }
 {
-    1003000
+    1004000
 }

@@ -6,6 +6,7 @@ use mathlib.Core.Path.{_≡_}
 use lib.Dec.{ltb}
 use lib.ListN.{replicate}
 use lib.Seq.{sets}
+use Rattle.gaps.specs.Gaps.{hasNever}
 use Rattle.fields.specs.Lists.{tabulate, filled}
 use Rattle.queue.specs.declared.Queue.{Queue}
 use Rattle.sequencing.specs.Lists.{at, sum, upto}
@@ -58,3 +59,4 @@ module _ (q : Queue) where
     pub latest-are : l .latest ≡ filled 65 (bySlot (problem q) latestAt)
     pub slots-are : l .slots ≡ filled 5 (map (slotOf (problem q)) (upto (q .kinds)))
     pub strides-are : l .strides ≡ filled 5 (map (stride (allLeft (problem q))) (upto (q .kinds)))
+    pub forbids-is : l .forbids ≡ hasNever (q .gaps)

@@ -35,6 +35,8 @@ pub struct Layout {
     pub slots: [usize; 5],
     // What one job of each kind counts for in an entry number.
     pub strides: [usize; 5],
+    // Whether any gap is never.
+    pub forbids: bool,
 }
 
 // Lists the jobs of a kind by hand-in, from `from` on; returns the position behind them.
@@ -209,6 +211,8 @@ pub fn prepare(queue: Queue) -> Layout
         &mut latest,
     );
     let block = set_strides(counts, kinds, &mut strides);
+    let gaps = queue.gaps;
+    let forbids = gaps::has_never(&gaps);
     Layout {
         size: Size {
             kinds,
@@ -222,6 +226,7 @@ pub fn prepare(queue: Queue) -> Layout
         latest,
         slots,
         strides,
+        forbids,
     }
 }
 

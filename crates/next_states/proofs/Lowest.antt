@@ -10,6 +10,7 @@ use lib.Dec.{ltb}
 use Rattle.units.specs.Costs.{costIn, numberOf}
 use Rattle.units.proofs.Costs.{number-is}
 use Rattle.sequencing.specs.Least.{least, argLeast}
+use Rattle.sequencing.proofs.Least.{least-ext, arg-ext}
 use Rattle.sequencing.proofs.Options.{none-some}
 use Rattle.sequencing.specs.Entries.{stored}
 use Rattle.next_states.specs.declared.Least.{Least}
@@ -57,3 +58,11 @@ module _ {goal : ℕ} {f : ℕ → Option ℕ} {best : Least} where
 
     pub lowest-done : 5 ≤ x → IsLeast goal f best
     lowest-done h = let e : 5 ≡ x = omega (arith, w .few) in record { cost-is = rw e (w .cost-is); kind-is = rw e (w .kind-is); no-kind = rw e (w .no-kind) }
+
+-- the same values by kind have the same least
+pub least-same : {goal : ℕ} {f g : ℕ → Option ℕ} {r : Least} → ((x : ℕ) → 1 ≤ x → x ≤ 5 → f x ≡ g x) → IsLeast goal f r → IsLeast goal g r
+least-same {f = f} {g = g} same w = record {
+  cost-is = rw (← (least-ext f g 5 same)) (w .cost-is);
+  kind-is = λ c e. w .kind-is c (least-ext f g 5 same ∙ e) ∙ arg-ext f g 5 same;
+  no-kind = λ e. w .no-kind (least-ext f g 5 same ∙ e);
+}

@@ -2,7 +2,7 @@
 -- Assumes nothing.
 use Prim.Native.Nat.{ℕ, zero, suc, _+_, _-_, _^_, _<_, _≤_, min}
 use mathlib.Core.Bool.{Bool, true, false, cond}
-use mathlib.Core.Logic.{inl, inr}
+use mathlib.Core.Logic.{inl, inr, _≢_}
 use mathlib.Core.Option.{Option, none, some}
 use mathlib.Core.Path.{_≡_, refl, sym, _∙_}
 use native.Mathlib.Nat.{add-zero}
@@ -40,9 +40,15 @@ pub fits-stored : (r : Option ℕ) → Fits r → stored r < 2 ^ 64
 fits-stored none h = omega arith
 fits-stored (some c) h = omega arith
 
+pub loaded-some : (v : ℕ) → v ≢ 2 ^ 64 - 1 → loaded v ≡ some v
+loaded-some v n = rw (ne-eqb v (2 ^ 64 - 1) n)
+
+pub loaded-found : (v : ℕ) → v ≢ 2 ^ 64 - 1 → loaded v ≢ none
+loaded-found v n e = none-some v (sym e ∙ loaded-some v n)
+
 pub loaded-stored : (r : Option ℕ) → Fits r → loaded (stored r) ≡ r
 loaded-stored none h = refl
-loaded-stored (some c) h = rw (ne-eqb c (2 ^ 64 - 1) (λ e. omega arith))
+loaded-stored (some c) h = loaded-some c (λ e. omega arith)
 
 pub stored-loaded : (v : ℕ) → stored (loaded v) ≡ v
 stored-loaded v = elim (bool-cases (eqb v (2 ^ 64 - 1))) [ inl e ↦ rw e (sym (eqb-true v (2 ^ 64 - 1) e)) | inr e ↦ rw e ]

@@ -2,14 +2,17 @@
 use Prim.Native.Nat.{ℕ, _+_, _-_, _*_, _^_, _≤_, _<_}
 use mathlib.Core.Bool.{cond}
 use mathlib.Core.List.{List, [], _∷_}
+use mathlib.Core.Logic.{_≢_}
 use mathlib.Core.Option.{Option, none, some}
 use mathlib.Core.Path.{_≡_}
 use lib.Dec.{ltb, eqb}
 use lib.ListN.{length, getD}
 use Rattle.units.specs.Costs.{costIn}
-use Rattle.gaps.specs.Gaps.{gapAt}
+use Rattle.gaps.specs.declared.Gap.{Gap}
+use Rattle.gaps.specs.declared.Gap.the-variants.{Lasting, Never}
+use Rattle.gaps.specs.Gaps.{gapBetween}
 use Rattle.sequencing.specs.Lists.{at}
-use Rattle.sequencing.specs.Least.{only, plus, least, argLeast}
+use Rattle.sequencing.specs.Least.{only, plusGap, least, argLeast}
 use Rattle.sequencing.specs.Entries.{stored}
 use Rattle.next_states.specs.declared.Least.{Least}
 
@@ -21,15 +24,26 @@ loaded v = cond (eqb v (2 ^ 64 - 1)) none (some v)
 abbrev pub nextValue : (table left strides : List ℕ) (block index : ℕ) → ℕ → Option ℕ
 nextValue table left strides block index x = only (ltb 0 (at left x)) (loaded (getD table ((x - 1) * block + index - at strides x) 0))
 
--- the next states' entries by kind; none for kinds that are not there
-unfoldable pub nextValues : (table left strides : List ℕ) (block index : ℕ) → List ℕ
-nextValues table left strides block index =
-    let v : ℕ → ℕ = λ x. stored (nextValue table left strides block index x) in
-    v 1 ∷ v 2 ∷ v 3 ∷ v 4 ∷ v 5 ∷ []
+-- a value for each of five kinds, as the table holds them
+unfoldable pub perKind : (ℕ → Option ℕ) → List ℕ
+perKind v = stored (v 1) ∷ stored (v 2) ∷ stored (v 3) ∷ stored (v 4) ∷ stored (v 5) ∷ []
 
--- what kind x as the next comes to from row L, by the next states' entries: w × gap(L, x) and what comes after
+-- the next states' entries by kind; none for kinds that are not there
+abbrev pub nextValues : (table left strides : List ℕ) (block index : ℕ) → List ℕ
+nextValues table left strides block index = perKind (nextValue table left strides block index)
+
+-- v, but none behind 02's never
+abbrev pub behind : Gap → Option ℕ → Option ℕ
+behind (Lasting s) v = v
+behind Never v = none
+
+-- of the next states' entries those whose kind may follow row L
+abbrev pub openValues : (next gaps : List ℕ) (row : ℕ) → List ℕ
+openValues next gaps row = perKind (λ x. behind (gapBetween gaps row x) (loaded (at next x)))
+
+-- what kind x as the next comes to from row L, by the next states' entries: w × gap(L, x) and what comes after; none where x may not follow L
 abbrev pub candidate : (next gaps : List ℕ) (row w : ℕ) → ℕ → Option ℕ
-candidate next gaps row w x = plus (w * gapAt gaps row x) (loaded (at next x))
+candidate next gaps row w x = plusGap w (gapBetween gaps row x) (loaded (at next x))
 
 -- the least of f over five kinds as it is answered: its cost in the goal's unit, and the smallest kind that reaches it, 0 where there is none
 pub record IsLeast (goal : ℕ) (f : ℕ → Option ℕ) (r : Least) : Type 0 where
@@ -52,3 +66,7 @@ pub record Ready (next gaps : List ℕ) (row w : ℕ) : Type 0 where
   pub next-long : length next ≡ 5
   pub gaps-long : length gaps ≡ 30
   pub small : (x c : ℕ) → 1 ≤ x → x ≤ 5 → candidate next gaps row w x ≡ some c → c < 2 ^ 64 - 1
+
+-- every next state that has a value may follow row L
+abbrev pub Open : (next gaps : List ℕ) (row : ℕ) → Type 0
+Open next gaps row = (x : ℕ) → 1 ≤ x → x ≤ 5 → loaded (at next x) ≢ none → gapBetween gaps row x ≢ Never

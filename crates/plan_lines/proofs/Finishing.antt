@@ -1,4 +1,4 @@
--- The kind of any job, and the finish at a place: each job cut adds the gap from the kind before.
+-- The kind of any job, and the finish at a place: each job cut adds the seconds of the gap from the kind before.
 -- Assumes nothing.
 use Prim.Native.Nat.{ℕ, zero, suc, _+_, _-_, _*_, _^_, _≤_, _<_}
 use mathlib.Core.Path.{_≡_, refl, sym, ap, _∙_}
@@ -8,6 +8,8 @@ use native.Mathlib.Nat.{sub-zero}
 use native.Mathlib.Numerals.{add-one}
 use lib.ListN.{length, getD, drop, length-map, List·getD-eq-default}
 use lib.Seq.{drop-cons}
+use Rattle.gaps.specs.declared.Gap.{Gap}
+use Rattle.gaps.specs.Gaps.{gapIndex, asGap, gapBetween, secondsOf}
 use Rattle.sequencing.specs.Lists.{at}
 use Rattle.sequencing.specs.Problem.{Problem, kind as kindIn}
 use Rattle.sequencing.specs.Orders.{finishes}
@@ -30,8 +32,8 @@ at-past xs zero h = refl
 at-past xs (suc i) h = sym (List·getD-eq-default xs 0 (omega arith))
 
 -- a gap that the record does not have
-pub gap-none : (xs : List ℕ) (n i : ℕ) → n ≡ i → length xs ≤ n → 0 ≡ getD xs i 0
-gap-none xs n i e h = sym (List·getD-eq-default xs 0 (omega arith))
+pub gap-none : (xs : List ℕ) (n row kind : ℕ) → n ≡ gapIndex row kind → length xs ≤ n → 0 ≡ secondsOf (gapBetween xs row kind)
+gap-none xs n row kind e h = ap (λ (g : ℕ). secondsOf (asGap g)) (sym (List·getD-eq-default xs 0 (omega arith)))
 
 -- ---- the kind of a job
 
@@ -48,11 +50,11 @@ module _ (q : Queue) (i : ℕ) where
 
 -- ---- the finishes
 
-module _ (gap : ℕ → ℕ → ℕ) (kind : ℕ → ℕ) (start : ℕ) (o : List ℕ) where
+module _ (gap : ℕ → ℕ → Gap) (kind : ℕ → ℕ) (start : ℕ) (o : List ℕ) where
   finishes-length : (L t : ℕ) (xs : List ℕ) → length (finishes gap L t xs) ≡ length xs
   unfolding finishes
   finishes-length L t [] = refl
-  finishes-length L t (x ∷ xs) = ap suc (finishes-length x (t + gap L x) xs)
+  finishes-length L t (x ∷ xs) = ap suc (finishes-length x (t + secondsOf (gap L x)) xs)
 
   -- a place that the order does not have
   pub finish-past : (place : ℕ) → length o < place → 0 ≡ at (finishes gap start 0 (map kind o)) place
@@ -72,7 +74,7 @@ module _ (gap : ℕ → ℕ → ℕ) (kind : ℕ → ℕ) (start : ℕ) (o : Lis
       from-start (suc p) = rw sub-zero
 
   module _ (place L t k : ℕ) (w : Cutting place L t k) where
-    pub cutting-more : k < place → place ≤ length o → (x g t′ : ℕ) → x ≡ kind (getD o k 0) → g ≡ gap L x → g < 2 ^ 32 → t′ ≡ t + g
+    pub cutting-more : k < place → place ≤ length o → (x g t′ : ℕ) → x ≡ kind (getD o k 0) → g ≡ secondsOf (gap L x) → g < 2 ^ 32 → t′ ≡ t + g
         → Cutting place x t′ (k + 1)
     unfolding finishes
     cutting-more h u x g t′ xe ge s te =

@@ -1,10 +1,11 @@
 // What the programs print of a plan: for a place its job, the kind and the finish.
+use gaps::Gap;
 use plan::Plan;
 use queue::Queue;
 use units::Seconds;
 ghost use mathlib.Core.Path.{_≡_};
 ghost use Prim.Native.Nat.{_^_, _<_};
-ghost use Rattle.queue.specs.Record.{gap as gapIn};
+ghost use Rattle.gaps.specs.Gaps.{gapBetween, secondsOf};
 ghost use Rattle.sequencing.specs.Lists.{at};
 ghost use Rattle.sequencing.specs.Problem.{kind as kindIn};
 ghost use Rattle.problem.specs.OfQueue.{problem};
@@ -35,22 +36,20 @@ fn kind_of(queue: Queue, job: u8) -> u8
     job_kinds[job as usize - 1]
 }
 
-// A gap as a time, which is small enough to add up.
-fn in_seconds(gap: u32) -> Seconds
-    ensures { λ r. ⌜ (r .0 ≡ gap) × (r .0 < 2 ^ 32) ⌝ }
-{
-    Seconds(gap as u64)
-}
-
-// The gap from a row (a kind, or 0 for the cold cutter) to a kind. A kind of 0, or past N, gets the number that stands where its gap would; 0 past the array.
+// The seconds that the gap from a row (a kind, or 0 for the cold cutter) to a kind adds to a finish: never adds none, and no plan has one. A kind of 0, or past
+// N, gets the gap that stands where its own would; 0 past the array.
 fn gap_seconds(queue: Queue, row: u32, kind: u8) -> Seconds
-    ensures { λ r. ⌜ (r .0 ≡ gapIn queue row kind) × (r .0 < 2 ^ 32) ⌝ }
+    ensures { λ r. ⌜ (r .0 ≡ secondsOf (gapBetween (queue .gaps) row kind)) × (r .0 < 2 ^ 32) ⌝ }
 {
     let held = queue.gaps;
     if 30 <= gaps::gap_index(row as usize, kind as usize) {
-        return in_seconds(0);
+        return Seconds(0);
     }
-    in_seconds(gaps::gap_after(&held, row as usize, kind as usize))
+    let gap = gaps::gap_after(&held, row as usize, kind as usize);
+    match gap {
+        Gap::Lasting(seconds) => seconds,
+        Gap::Never => Seconds(0),
+    }
 }
 
 // The job at a place of an order, 0 where there is none.

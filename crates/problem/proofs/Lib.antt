@@ -5,3 +5,5 @@ pub mod Queues
 pub mod Sizes
 pub mod PermittedOrders
 pub mod Cases
+pub mod Forbidden
+pub mod Unforbidden

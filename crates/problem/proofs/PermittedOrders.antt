@@ -1,17 +1,20 @@
 -- The permitted orders of a problem, listed: for queues that are written out.
 -- Assumes nothing.
-use mathlib.Core.Bool.{Bool, true, cond, _&&_}
+use mathlib.Core.Bool.{Bool, true, false, cond, _&&_}
 use mathlib.Core.List.{List, [], _∷_, map, flatMap, List·Memᴰ, List·Memᴰ·head, List·Memᴰ·tail, List·Memᴰ·not-nil, List·Memᴰ·cases-cons, Memᴰ·append-left, Memᴰ·append-right, Memᴰ·map}
-use mathlib.Core.Logic.{inl, inr, _↔_}
+use mathlib.Core.Logic.{inl, inr, _↔_, _≢_}
 use mathlib.Core.Path.{_≡_, refl}
 use mathlib.Mathlib.Data.Bool.Basic.{dichotomy}
 use Prim.Native.Nat.{ℕ, zero, suc, _+_, _≤_, _<_}
 use native.Mathlib.Omega.{arith}
 use lib.Dec.{T as Is, eqb, eqb→eq, eqb-refl}
 use lib.ListN.{length}
+use Rattle.gaps.specs.declared.Gap.{Gap}
+use Rattle.gaps.specs.declared.Gap.the-variants.{Lasting, Never}
+use Rattle.gaps.proofs.Gaps.{not-never}
 use Rattle.sequencing.specs.Lists.{from, upto, count}
-use Rattle.sequencing.specs.Problem.{Problem, T}
-use Rattle.sequencing.specs.Orders.{IsOrder, PlacesPermitted, Permitted}
+use Rattle.sequencing.specs.Problem.{Problem, T, kind}
+use Rattle.sequencing.specs.Orders.{IsOrder, PlacesPermitted, SuccessionsPermitted, Permitted}
 use Rattle.sequencing.proofs.Counting.{one-cases, one-self, from-in}
 use Rattle.sequencing.proofs.Orders.{order-counts}
 use Rattle.problem.proofs.Tests.{and-l, and-r, and}
@@ -89,6 +92,15 @@ unfolding onceFrom
 is-once o i zero h = tt
 is-once o i (suc n) h = and (eqb (count i o) 1) (onceFrom o (suc i) n) (eqb-iff _ 1 .1 (h i (omega arith) (omega arith))) (is-once o (suc i) n (λ z l u. h z (omega arith) (omega arith)))
 
+follows : Gap → Bool
+follows Never = false
+follows (Lasting s) = true
+
+follows-iff : (g : Gap) → Is (follows g) ↔ (g ≢ Never)
+unfolding follows
+follows-iff Never = ((λ t. absurd t), (λ h. absurd (h refl)))
+follows-iff (Lasting s) = ((λ t. not-never s), (λ h. tt))
+
 module _ (P : Problem) where
   permittedFrom : ℕ → List ℕ → Bool
   permittedFrom p [] = true
@@ -99,19 +111,29 @@ module _ (P : Problem) where
   permitted-iff p [] = ((λ t. tt), (λ t. tt))
   permitted-iff p (i ∷ o) = and-iff (P .ok i p) (permittedFrom (suc p) o) ((λ t. t), (λ t. t)) (permitted-iff (suc p) o)
 
-  isPermitted : List ℕ → Bool
-  isPermitted o = eqb (length o) (T P) && onceFrom o 1 (T P) && permittedFrom 1 o
+  followsFrom : ℕ → List ℕ → Bool
+  followsFrom L [] = true
+  followsFrom L (x ∷ xs) = follows (P .gap L x) && followsFrom x xs
 
-  permitted-is : (o : List ℕ) → Is (isPermitted o) ↔ (((length o ≡ T P) × ((z : ℕ) → 1 ≤ z → z < 1 + T P → count z o ≡ 1)) × PlacesPermitted P 1 o)
+  successions-iff : (L : ℕ) (xs : List ℕ) → Is (followsFrom L xs) ↔ SuccessionsPermitted P L xs
+  unfolding followsFrom SuccessionsPermitted
+  successions-iff L [] = ((λ t. tt), (λ t. tt))
+  successions-iff L (x ∷ xs) = and-iff (follows (P .gap L x)) (followsFrom x xs) (follows-iff (P .gap L x)) (successions-iff x xs)
+
+  isPermitted : List ℕ → Bool
+  isPermitted o = (eqb (length o) (T P) && onceFrom o 1 (T P)) && (permittedFrom 1 o && followsFrom (P .start) (map (kind P) o))
+
+  permitted-is : (o : List ℕ)
+      → Is (isPermitted o) ↔ (((length o ≡ T P) × ((z : ℕ) → 1 ≤ z → z < 1 + T P → count z o ≡ 1)) × (PlacesPermitted P 1 o × SuccessionsPermitted P (P .start) (map (kind P) o)))
   unfolding isPermitted
-  permitted-is o = and-iff (eqb (length o) (T P) && onceFrom o 1 (T P)) (permittedFrom 1 o)
+  permitted-is o = and-iff (eqb (length o) (T P) && onceFrom o 1 (T P)) (permittedFrom 1 o && followsFrom (P .start) (map (kind P) o))
       (and-iff (eqb (length o) (T P)) (onceFrom o 1 (T P)) (eqb-iff _ (T P)) (once-is o 1 (T P), is-once o 1 (T P)))
-      (permitted-iff 1 o)
+      (and-iff (permittedFrom 1 o) (followsFrom (P .start) (map (kind P) o)) (permitted-iff 1 o) (successions-iff (P .start) (map (kind P) o)))
 
   -- ---- the list
 
   unfoldable pub permittedOrders : List (List ℕ)
-  unfolding passing lists isPermitted onceFrom permittedFrom
+  unfolding passing lists isPermitted onceFrom permittedFrom followsFrom follows
   permittedOrders = passing isPermitted (lists (T P) (T P))
 
   -- it holds the permitted orders and nothing else
@@ -120,7 +142,7 @@ module _ (P : Problem) where
   permitted-orders o = (
     (λ w. passing-has isPermitted o (lists (T P) (T P))
         (lists-has (T P) (T P) o (w .0 .whole) (λ z c. omega (arith, from-in z 1 (T P) (rw (order-counts P o (w .0) z) at c))))
-        (permitted-is o .1 ((w .0 .whole, (λ z l u. w .0 .once z l (omega arith))), w .1 .places))),
+        (permitted-is o .1 ((w .0 .whole, (λ z l u. w .0 .once z l (omega arith))), (w .1 .places, w .1 .successions)))),
     (λ m. let t = permitted-is o .0 (passing-is isPermitted o (lists (T P) (T P)) m) in
-        (record { whole = t .0 .0; once = λ z l u. t .0 .1 z l (omega arith) }, record { places = t .1 })),
+        (record { whole = t .0 .0; once = λ z l u. t .0 .1 z l (omega arith) }, record { places = t .1 .0; successions = t .1 .1 })),
   )

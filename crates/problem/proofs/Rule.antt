@@ -7,10 +7,11 @@ use mathlib.Core.Path.{_≡_, sym, ap, _∙_}
 use Prim.Native.Nat.{ℕ, zero, suc, _+_, _≤_}
 use native.Mathlib.Omega.{arith}
 use lib.Dec.{T as Is, leb, leb→le, le→leb}
+use Rattle.gaps.proofs.Gaps.{gap-le}
 use Rattle.sequencing.specs.Problem.{T, kind as kindIn, Proper, Exchange}
 use Rattle.sequencing.specs.Limits.{Limits}
 use Rattle.queue.specs.declared.Queue.{Queue}
-use Rattle.queue.specs.Record.{firstPlace, lastPlace, kind, Valid}
+use Rattle.queue.specs.Record.{gap, firstPlace, lastPlace, kind, Valid}
 use Rattle.fields.proofs.Tables.{length-tabulate, tabulate-at}
 use Rattle.problem.specs.PlaceRule.{distance, allowed, earliest, latest}
 use Rattle.problem.specs.OfQueue.{problem}
@@ -72,7 +73,7 @@ module _ (q : Queue) where
 
     -- 01's bounds on gaps and pupils
     pub limits : Limits (problem q) 65535 1000
-    limits = record { start = v .start; gaps = v .gaps; weights = v .weights; positive = omega arith }
+    limits = record { start = v .start; gaps = λ i j l m u. gap-le (gap q i j) (v .gaps i j l m u); weights = v .weights; positive = omega arith }
 
     -- and on jobs
     pub few-jobs : T (problem q) ≤ 60

@@ -5,12 +5,12 @@ use mathlib.Core.Option.{Option, none, some}
 use mathlib.Core.Path.{_≡_}
 use Prim.Native.Nat.{ℕ}
 use lib.ListN.{length}
+use Rattle.gaps.specs.Gaps.{gapBetween}
 use Rattle.sequencing.specs.Orders.{IsOrder, Permitted, finishes, cost}
 use Rattle.sequencing.specs.Recursion.{planCost, planKinds, planOrder}
 use Rattle.sequencing.specs.Entries.{entries}
 use Rattle.sequencing.specs.Counts.{feasibleStates}
 use Rattle.queue.specs.declared.Queue.{Queue}
-use Rattle.queue.specs.Record.{gap}
 use Rattle.queue.specs.Reading.{headOf, withJobs}
 use Rattle.problem.specs.OfQueue.{problem}
 
@@ -82,7 +82,7 @@ kept q = feasibleStates (problem q)
 
 -- the kinds of the plan, place by place, and their finishes
 abbrev pub planFinishes : Queue → List ℕ × List ℕ
-planFinishes q = (planKinds (problem q), finishes (gap q) (q .start) 0 (planKinds (problem q)))
+planFinishes q = (planKinds (problem q), finishes (gapBetween (q .gaps)) (q .start) 0 (planKinds (problem q)))
 
 -- the three permitted orders of A and B
 abbrev pub three : List (List ℕ)

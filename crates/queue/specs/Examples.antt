@@ -49,11 +49,12 @@ Examples =
     × (readQueue (with 4 (0x02 ∷ [])) ≡ accepted (queueOf 2 2 3 (1 ∷ 2 ∷ 1 ∷ [])))
     × (readQueue bytesG ≡ accepted (queueOf 2 1 0 []))
     × (message (queueOf 2 1 0 []) ≡ bytesG)
-    -- I, as the first gap: 80 00 gives 3, 81 at the end 2, FF FF 03 is accepted, 80 80 04 gives 9
+    -- I, as the first gap: 80 00 gives 3, 81 at the end 2, FF FF 03 is accepted, 80 80 04 reads as 02's never, 81 80 04 gives 9
     × (readQueue (with 7 (0x80 ∷ 0x00 ∷ [])) ≡ asReading (refused Groups))
     × (readQueue (take 7 bytesA ++ (0x81 ∷ [])) ≡ asReading (refused Ends))
     × (readQueue (with 7 (0xFF ∷ 0xFF ∷ 0x03 ∷ [])) .queue .gaps ≡ 65535 ∷ drop 1 (queueOf 2 1 0 [] .gaps))
-    × (readQueue (with 7 (0x80 ∷ 0x80 ∷ 0x04 ∷ [])) ≡ asReading (refused Gap))
+    × (readQueue (with 7 (0x80 ∷ 0x80 ∷ 0x04 ∷ [])) ≡ accepted (recordOf 1 0 65536 3 (1, 60) (1 ∷ 2 ∷ 1 ∷ [])))
+    × (readQueue (with 7 (0x81 ∷ 0x80 ∷ 0x04 ∷ [])) ≡ asReading (refused Gap))
     -- 1: no bytes, one byte, a plan's opening
     × (readQueue [] ≡ asReading (refused Opening))
     × (readQueue (0x51 ∷ []) ≡ asReading (refused Opening))
@@ -82,12 +83,12 @@ Examples =
     × (writtenQueue (queueOf 2 7 3 (1 ∷ 2 ∷ 1 ∷ [])) (replicate 178 0xAA) ≡ replicate 178 0xAA)
     × (writtenQueue (queueOf 2 1 3 (1 ∷ 2 ∷ 1 ∷ [])) (replicate 178 0xAA) ≡ bytesA ++ replicate 155 0xAA)
     -- a record at its bounds, then each bound passed by one, 5 to 13
-    × (judge (recordOf 60 2 65535 1000 (60, 60) (1 ∷ 2 ∷ 2 ∷ [])) ≡ Accepted)
+    × (judge (recordOf 60 2 65536 1000 (60, 60) (1 ∷ 2 ∷ 2 ∷ [])) ≡ Accepted)
     × (judge (queueOf 6 1 3 (1 ∷ 2 ∷ 1 ∷ [])) ≡ Refused Kinds)
     × (judge (queueOf 2 3 3 (1 ∷ 2 ∷ 1 ∷ [])) ≡ Refused Goal)
     × (judge (recordOf 61 0 10 3 (1, 60) (1 ∷ 2 ∷ 1 ∷ [])) ≡ Refused Shift)
     × (judge (recordOf 1 3 10 3 (1, 60) (1 ∷ 2 ∷ 1 ∷ [])) ≡ Refused Start)
-    × (judge (recordOf 1 0 65536 3 (1, 60) (1 ∷ 2 ∷ 1 ∷ [])) ≡ Refused Gap)
+    × (judge (recordOf 1 0 65537 3 (1, 60) (1 ∷ 2 ∷ 1 ∷ [])) ≡ Refused Gap)
     × (judge (recordOf 1 0 10 1001 (1, 60) (1 ∷ 2 ∷ 1 ∷ [])) ≡ Refused Pupils)
     × (judge (recordOf 1 0 10 3 (0, 60) (1 ∷ 2 ∷ 1 ∷ [])) ≡ Refused Places)
     × (judge (recordOf 1 0 10 3 (1, 61) (1 ∷ 2 ∷ 1 ∷ [])) ≡ Refused Places)
@@ -97,4 +98,4 @@ Examples =
 
 pub examples : Examples
 unfolding groupsAt groups encode opens times tabulate flatMap all placed settings tables head jobs queue readQueue headBytes jobBytes message judgeSettings judgeTables judgeHead judgeJobs judge writeQueue writtenQueue
-examples = (refl, refl, refl, refl, refl, refl, refl, refl, refl, refl, refl, refl, refl, refl, refl, refl, refl, refl, refl, refl, refl, refl, refl, refl, refl, refl, refl, refl, refl, refl, refl, refl, refl, refl, refl, refl, refl, refl, refl, refl, refl, refl)
+examples = (refl, refl, refl, refl, refl, refl, refl, refl, refl, refl, refl, refl, refl, refl, refl, refl, refl, refl, refl, refl, refl, refl, refl, refl, refl, refl, refl, refl, refl, refl, refl, refl, refl, refl, refl, refl, refl, refl, refl, refl, refl, refl, refl)

@@ -55,7 +55,7 @@ headOf f rows weights windows = record {
 -- gap rows 0 to N (N numbers each), w_1 .. w_N, a_1 b_1 .. a_N b_N
 unfoldable pub tables : Settings → Reader Queue
 tables f = do
-  rows ← times (f .kinds + 1) (times (f .kinds) (field 3 (within 0 65535) Gap))
+  rows ← times (f .kinds + 1) (times (f .kinds) (field 3 (within 0 65536) Gap))
   weights ← times (f .kinds) (field 3 (within 0 1000) Pupils)
   windows ← times (f .kinds) window
   give (headOf f rows weights windows)

@@ -56,7 +56,7 @@ module _ (q : Queue) where
     pub goal : (1 ≤ q .goal) × (q .goal ≤ 2)
     pub shift : q .«max_shift» ≤ 60
     pub start : q .start ≤ q .kinds
-    pub gaps : (i j : ℕ) → i ≤ q .kinds → 1 ≤ j → j ≤ q .kinds → gap i j ≤ 65535
+    pub gaps : (i j : ℕ) → i ≤ q .kinds → 1 ≤ j → j ≤ q .kinds → gap i j ≤ 65536
     pub weights : (j : ℕ) → 1 ≤ j → j ≤ q .kinds → weight j ≤ 1000
     pub places : (j : ℕ) → 1 ≤ j → j ≤ q .kinds → (1 ≤ firstPlace j) × (firstPlace j ≤ lastPlace j) × (lastPlace j ≤ 60)
     pub jobs : q .jobs ≤ 60

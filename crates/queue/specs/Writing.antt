@@ -42,7 +42,7 @@ judgeSettings q =
 -- 9 to 11
 unfoldable pub judgeTables : Queue → Verdict
 judgeTables q =
-    check (all (all (within 0 65535)) (rows q)) Gap
+    check (all (all (within 0 65536)) (rows q)) Gap
     before check (all (within 0 1000) (weightList q)) Pupils
     before check (all windowOk (windows q)) Places
 

@@ -79,7 +79,7 @@ Tables = List (List ℕ) × (List ℕ × List (ℕ × ℕ))
 
 abbrev pub tablesFormat : {Given : Type 0} (n : ℕ) → (Given → n ≤ 5) → Format Tables Given 110 114 (Gap ∷ Pupils ∷ Places ∷ [])
 tablesFormat n few =
-    andNext (alike (numbers n 5 few 0 65535 Gap 3 (omega arith) (λ z. (omega arith, omega arith))) (all (within 0 65535)) Gap (λ row. refl) (n + 1) 6 (λ z. let k = few z in omega arith)) λ rows.
+    andNext (alike (numbers n 5 few 0 65536 Gap 3 (omega arith) (λ z. (omega arith, omega arith))) (all (within 0 65536)) Gap (λ row. refl) (n + 1) 6 (λ z. let k = few z in omega arith)) λ rows.
     andNext (numbers n 5 (λ z. few (z .0)) 0 1000 Pupils 2 (omega arith) (λ z. (omega arith, omega arith))) λ weights.
     alike windowFormat windowOk Places (λ w. refl) n 5 (λ z. few (z .0 .0))
 

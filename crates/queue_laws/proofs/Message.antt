@@ -106,7 +106,7 @@ module _ (q : Queue) where
 
   -- a gap row as 01 allows it
   abbrev RowOk : List ℕ → Type 0
-  RowOk r = (length r ≡ q .kinds) × All (λ w. (0 ≤ w) × (w ≤ 65535)) r
+  RowOk r = (length r ≡ q .kinds) × All (λ w. (0 ≤ w) × (w ≤ 65536)) r
 
   abbrev places : ℕ → ℕ × ℕ
   places j = (firstPlace q j, lastPlace q j)
@@ -133,7 +133,7 @@ module _ (q : Queue) where
         goal = settings-ok .1 .0;
         shift = settings-ok .1 .1 .0 .1;
         start = settings-ok .1 .1 .1 .1;
-        gaps = λ i j a b d. tabulate-all (gap q i) (λ v. (0 ≤ v) × (v ≤ 65535)) 1 (q .kinds) (tabulate-all row RowOk 0 (q .kinds + 1) (gaps-ok .1) i (omega arith) (omega arith) .1) j b (omega arith) .1;
+        gaps = λ i j a b d. tabulate-all (gap q i) (λ v. (0 ≤ v) × (v ≤ 65536)) 1 (q .kinds) (tabulate-all row RowOk 0 (q .kinds + 1) (gaps-ok .1) i (omega arith) (omega arith) .1) j b (omega arith) .1;
         weights = λ j a b. tabulate-all (weight q) (λ v. (0 ≤ v) × (v ≤ 1000)) 1 (q .kinds) (weights-ok .1) j a (omega arith) .1;
         places = λ j a b. tabulate-all places WindowOk 1 (q .kinds) (windows-ok .1) j a (omega arith);
         jobs = count-ok .1;
@@ -144,7 +144,7 @@ module _ (q : Queue) where
   valid-ok v =
       let (_, (_, ((gaps-sized, (weights-sized, windows-sized)), (_, kinds-sized)))) = sized in
       let row-ok : (i : ℕ) → 0 ≤ i → i < 0 + (q .kinds + 1) → RowOk (row i) = λ i a b.
-      (length-tabulate (gap q i) 1 (q .kinds), all-tabulate (gap q i) (λ w. (0 ≤ w) × (w ≤ 65535)) 1 (q .kinds) (λ j c d. (omega arith, v .gaps i j (omega arith) c (omega arith)))) in
+      (length-tabulate (gap q i) 1 (q .kinds), all-tabulate (gap q i) (λ w. (0 ≤ w) × (w ≤ 65536)) 1 (q .kinds) (λ j c d. (omega arith, v .gaps i j (omega arith) c (omega arith)))) in
       let gaps-ok = all-tabulate row RowOk 0 (q .kinds + 1) row-ok in
       let weights-ok = all-tabulate (weight q) (λ w. (0 ≤ w) × (w ≤ 1000)) 1 (q .kinds) (λ j a b. (omega arith, v .weights j a (omega arith))) in
       let windows-ok = all-tabulate places WindowOk 1 (q .kinds) (λ j a b. v .places j a (omega arith)) in

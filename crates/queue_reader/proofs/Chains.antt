@@ -17,7 +17,7 @@ use Rattle.queue.specs.Reading.{window, settings, headOf, tables, head, withJob
 
 -- one gap, one weight, and one job's kind
 abbrev pub gapField : Reader ℕ
-gapField = field 3 (within 0 65535) Gap
+gapField = field 3 (within 0 65536) Gap
 
 abbrev pub weightField : Reader ℕ
 weightField = field 3 (within 0 1000) Pupils

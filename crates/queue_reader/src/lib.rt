@@ -89,8 +89,8 @@ fn read_settings(bytes: &[u8], at: usize) -> Front
 // The gap rows, each stored where it begins.
 fn read_gaps(bytes: &[u8], at: usize, kinds: usize, gaps: &mut [u32]) -> Outcome
     requires { ⌜ (kinds ≤ 5) × (30 ≤ length (now gaps)) ⌝ }
-    ensures { λ r. ⌜ r ≡ asOutcome (times (kinds + 1) (times kinds (field 3 (within 0 65535) Reason.Gap)) (now (bytes .entry)) at) ⌝ }
-    ensures { λ _. ⌜ now (gaps .exit) ≡ placed (now (gaps .entry)) 0 (rowsBefore (kinds + 1) kinds (field 3 (within 0 65535) Reason.Gap) (now (bytes .entry)) at) ⌝ }
+    ensures { λ r. ⌜ r ≡ asOutcome (times (kinds + 1) (times kinds (field 3 (within 0 65536) Reason.Gap)) (now (bytes .entry)) at) ⌝ }
+    ensures { λ _. ⌜ now (gaps .exit) ≡ placed (now (gaps .entry)) 0 (rowsBefore (kinds + 1) kinds (field 3 (within 0 65536) Reason.Gap) (now (bytes .entry)) at) ⌝ }
 {
     let mut i = at;
     let mut row: usize = 0;
@@ -100,7 +100,7 @@ fn read_gaps(bytes: &[u8], at: usize, kinds: usize, gaps: &mut [u32]) -> Outcome
             i,
             kinds,
             0,
-            65535,
+            65536,
             Reason::Gap,
             gaps,
             gaps::row_start(row),

@@ -33,11 +33,11 @@ fn all_at_most(values: &[u32], from: usize, count: usize, most: u64) -> bool
 // Whether the gaps of every row are small enough.
 fn judge_gaps(gaps: &[u32], kinds: usize) -> bool
     requires { ⌜ (kinds ≤ 5) × (30 ≤ length (now gaps)) ⌝ }
-    ensures { λ r. ⌜ r ≡ all (all (within 0 65535)) (gapRows (now (gaps .entry)) kinds) ⌝ }
+    ensures { λ r. ⌜ r ≡ all (all (within 0 65536)) (gapRows (now (gaps .entry)) kinds) ⌝ }
 {
     let mut row: usize = 0;
     while row <= kinds {
-        if !all_at_most(gaps, gaps::row_start(row), kinds, 65535) {
+        if !all_at_most(gaps, gaps::row_start(row), kinds, 65536) {
             return false;
         }
         row = row + 1;

@@ -23,7 +23,7 @@ pub enum Reason {
     Shift,
     // 8: the start is over the number of kinds.
     Start,
-    // 9: a gap is over 65535.
+    // 9: a gap is over 65536.
     Gap,
     // 10: a weight is over 1000.
     Pupils,

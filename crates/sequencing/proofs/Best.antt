@@ -10,7 +10,7 @@ use native.Mathlib.Omega.{arith}
 use lib.ListN.{length, length-map}
 use Rattle.sequencing.specs.Lists.{at, upto, sum, count}
 use Rattle.sequencing.specs.Problem.{Problem, T, kind, Proper, Exchange}
-use Rattle.sequencing.specs.Orders.{IsOrder, Permitted, cost}
+use Rattle.sequencing.specs.Orders.{IsOrder, SuccessionsPermitted, Permitted, cost}
 use Rattle.sequencing.specs.States.{K, allLeft, place, byHandIn}
 use Rattle.sequencing.specs.Recursion.{W, planCost, planKinds, planOrder}
 use Rattle.sequencing.proofs.Counting.{from-in, from-le, from-pos}
@@ -49,14 +49,14 @@ module _ (P : Problem) (proper : Proper P) where
       once = λ i l u. omega (arith, start-assigned .counts i, start-counts i, from-le i 1 (T P), from-pos i 1 (T P) l (omega arith));
     }
 
-    is-permitted : Permitted P (byHandIn P (allLeft P) xs)
-    is-permitted = record { places = rw place-start at (start-assigned .permitted) }
+    is-permitted : SuccessionsPermitted P (P .start) xs → Permitted P (byHandIn P (allLeft P) xs)
+    is-permitted g = record { places = rw place-start at (start-assigned .permitted); successions = rw (start-assigned .kinds) g }
 
     costs : cost P (byHandIn P (allLeft P) xs) ≡ bySteps P (W P) (P .start) (allLeft P) xs
     costs = cost-is P (byHandIn P (allLeft P) xs) (allLeft P) (rw (start-assigned .kinds) f) ∙ ap (bySteps P (W P) (P .start) (allLeft P)) (start-assigned .kinds)
 
   module _ (c : ℕ) (e : planCost P ≡ some c) where
-    plan-fills : Fills P (allLeft P) (planKinds P) × (c ≡ bySteps P (W P) (P .start) (allLeft P) (planKinds P))
+    plan-fills : Fills P (allLeft P) (planKinds P) × SuccessionsPermitted P (P .start) (planKinds P) × (c ≡ bySteps P (W P) (P .start) (allLeft P) (planKinds P))
     unfolding planCost planKinds
     plan-fills = walk-is P (sum (allLeft P)) (P .start) (allLeft P) c refl e
 
@@ -68,7 +68,7 @@ module _ (P : Problem) (proper : Proper P) where
     -- Demand 3: the plan's order is an order, is permitted, and costs, by its own finishes, what the recursion says
     pub plan-is : IsOrder P (planOrder P) × Permitted P (planOrder P) × (cost P (planOrder P) ≡ c)
     unfolding planOrder
-    plan-is = let f = plan-fills .0 in (is-order (planKinds P) f, is-permitted (planKinds P) f, costs (planKinds P) f ∙ sym (plan-fills .1))
+    plan-is = let (f, g, e) = plan-fills in (is-order (planKinds P) f, is-permitted (planKinds P) f g, costs (planKinds P) f ∙ sym e)
 
   -- ---- an order gives a sequence that fills
 
@@ -79,7 +79,7 @@ module _ (P : Problem) (proper : Proper P) where
 
       order-upto : Upto (cost P o) (planCost P)
       unfolding planCost
-      order-upto = rw (cost-is P o (allLeft P) order-fills) (cost-upto P (sum (allLeft P)) (P .start) (allLeft P) (map (kind P) o) refl (all-left P) order-fills)
+      order-upto = rw (cost-is P o (allLeft P) order-fills) (cost-upto P (sum (allLeft P)) (P .start) (allLeft P) (map (kind P) o) refl (all-left P) order-fills (p .successions))
 
     -- Demand 3: every permitted order costs at least as much, those included that exchange jobs of one kind
     pub plan-least : (c : ℕ) → planCost P ≡ some c → (o : List ℕ) → IsOrder P o → Permitted P o → c ≤ cost P o

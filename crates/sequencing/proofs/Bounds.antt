@@ -10,6 +10,7 @@ use native.Mathlib.Nat.{mul-assoc, add-mul, mul-le-mul, mul-le-mul-left}
 use native.Mathlib.Omega.{arith}
 use lib.Dec.{eqb}
 use lib.ListN.{length}
+use Rattle.gaps.specs.Gaps.{secondsOf}
 use Rattle.sequencing.specs.Lists.{at, sum, weigh}
 use Rattle.sequencing.specs.Problem.{Problem}
 use Rattle.sequencing.specs.States.{complete, allLeft, IsLeft, IsPair}
@@ -50,7 +51,7 @@ module _ (P : Problem) (g w : ℕ) (b : Limits P g w) where
   ]
 
   step-le : (L : ℕ) (k : List ℕ) (x d : ℕ) → L ≤ P .N → IsLeft P k → 0 < at k x → d ≤ triangle (sum (complete k x)) * (w * g)
-      → W P k * P .gap L x + d ≤ triangle (sum k) * (w * g)
+      → W P k * secondsOf (P .gap L x) + d ≤ triangle (sum k) * (w * g)
   step-le L k x d l s h u =
       let q = at-in k x h in
       let v : 0 < sum k = omega (arith, complete-sum k x h) in
@@ -66,7 +67,7 @@ module _ (P : Problem) (g w : ℕ) (b : Limits P g w) where
   cost-le (suc n) L k c z l s e =
       let x = argLeast (choice P L k) (P .N) in
       let m = smallest (choice P L k) (P .N) c (sym (cost-some-left P L k (omega arith)) ∙ e) in
-      let (d, h, v, q) = choice-some P L k x c (m .reached) in
+      let (d, h, f, v, q) = choice-some P L k x c (m .reached) in
       rw q (step-le L k x d l s h
       (cost-le n x (complete k x) d (omega (arith, complete-sum k x h)) (m .high) (complete-left P k x s h) (value-some P x (complete k x) d v .2)))
 
@@ -77,7 +78,7 @@ module _ (P : Problem) (g w : ℕ) (b : Limits P g w) where
   -- nor is what any kind comes to as the next one
   pub choice-le : (L : ℕ) (k : List ℕ) (x c : ℕ) → L ≤ P .N → IsLeft P k → choice P L k x ≡ some c → c ≤ triangle (sum k) * (w * g)
   choice-le L k x c l s e =
-      let (d, h, v, q) = choice-some P L k x c e in
+      let (d, h, f, v, q) = choice-some P L k x c e in
       rw q (step-le L k x d l s h (value-le x (complete k x) d (next-pair P k x s h) v))
 
   -- nor is the plan's cost

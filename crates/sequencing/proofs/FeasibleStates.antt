@@ -26,13 +26,13 @@ state-of P L k p h = go (value P L k) refl
 module _ (P : Problem) (L : ℕ) (k : List ℕ) (s : IsState P L k) where
   feasible-upto : (t : Feasible P L k) → Upto (bySteps P (W P) L k (t .sequence)) (value P L k)
   feasible-upto t = value-upto P L k _ (s .completed) (t .here)
-      (cost-upto P (sum k) L k (t .sequence) refl (s .pair .left) (fills-of P k (t .sequence) (s .pair .left) (t .uses) (t .later)))
+      (cost-upto P (sum k) L k (t .sequence) refl (s .pair .left) (fills-of P k (t .sequence) (s .pair .left) (t .uses) (t .later)) (t .successions))
 
   feasible-of : (c : ℕ) → value P L k ≡ some c → Feasible P L k
   feasible-of c e =
       let v = value-some P L k c e in
       let q = walk-is P (sum k) L k c refl (v .2) in
-      record { here = v .1; sequence = walk P (sum k) L k; uses = uses P k _ (q .0); later = assigned P k _ (s .pair .left) (q .0) .permitted }
+      record { here = v .1; sequence = walk P (sum k) L k; uses = uses P k _ (q .0); later = assigned P k _ (s .pair .left) (q .0) .permitted; successions = q .1 }
 
   -- 01's kept: a state has a value exactly when it is feasible by 01's sentence
   pub feasible-is : (value P L k ≢ none) ↔ Feasible P L k

@@ -3,7 +3,7 @@
 use mathlib.Core.Bool.{true, cond, not, false≢true}
 use mathlib.Core.Logic.{inl, inr, _≢_}
 use mathlib.Core.Option.{Option, none, some}
-use mathlib.Core.Path.{_≡_, refl, sym, ap, _∙_}
+use mathlib.Core.Path.{_≡_, refl, sym, ap, ap₂, _∙_}
 use mathlib.Mathlib.Data.Bool.Basic.{dichotomy}
 use Prim.Native.Nat.{ℕ, zero, suc, _≤_, _<_}
 use native.Mathlib.Omega.{arith}
@@ -67,3 +67,16 @@ module _ (f : ℕ → Option ℕ) where
         bound = λ y d l u g. rw e at (least-upto n y d l u (rw g (omega arith)));
         first = first n c e;
       }
+
+-- what agrees from 1 to n has the same least
+pub least-ext : (f g : ℕ → Option ℕ) (n : ℕ) → ((x : ℕ) → 1 ≤ x → x ≤ n → f x ≡ g x) → least f n ≡ least g n
+unfolding least
+least-ext f g zero h = refl
+least-ext f g (suc n) h = ap₂ lower (least-ext f g n (λ x l u. h x l (omega arith))) (h (suc n) (omega arith) (omega arith))
+
+-- and the same kind that reaches it
+pub arg-ext : (f g : ℕ → Option ℕ) (n : ℕ) → ((x : ℕ) → 1 ≤ x → x ≤ n → f x ≡ g x) → argLeast f n ≡ argLeast g n
+unfolding argLeast
+arg-ext f g zero h = refl
+arg-ext f g (suc n) h =
+    rw (least-ext f g n (λ x l u. h x l (omega arith)), h (suc n) (omega arith) (omega arith), arg-ext f g n (λ x l u. h x l (omega arith)))

@@ -6,6 +6,7 @@ pub mod JobsLeft
 pub mod Fills
 pub mod Exchanging
 pub mod Costs
+pub mod PermittedCosts
 pub mod Options
 pub mod Least
 pub mod Equations
@@ -21,3 +22,4 @@ pub mod Sums
 pub mod Distinct
 pub mod FeasibleCount
 pub mod CountByLeft
+pub mod Unforbidden

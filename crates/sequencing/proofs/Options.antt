@@ -4,10 +4,14 @@ use mathlib.Core.Bool.{Bool, true, false}
 use mathlib.Core.Logic.{_≢_}
 use mathlib.Core.Option.{Option, none, some}
 use mathlib.Core.Path.{_≡_, refl, sym}
-use Prim.Native.Nat.{ℕ, _+_, _-_, _^_, _≤_, _<_}
+use Prim.Native.Nat.{ℕ, _+_, _-_, _*_, _^_, _≤_, _<_}
 use native.Mathlib.Omega.{arith}
 use lib.Dec.{T as Is}
-use Rattle.sequencing.specs.Least.{only, plus, lower}
+use Rattle.gaps.specs.declared.Gap.{Gap}
+use Rattle.gaps.specs.declared.Gap.the-variants.{Lasting, Never}
+use Rattle.gaps.specs.Gaps.{secondsOf}
+use Rattle.gaps.proofs.Gaps.{not-never}
+use Rattle.sequencing.specs.Least.{only, plus, plusGap, lower}
 use Rattle.sequencing.specs.Entries.{stored}
 use Rattle.sequencing.specs.Counts.{valued}
 
@@ -24,6 +28,20 @@ only-some false r c e = absurd (none-some c e)
 pub plus-some : (a : ℕ) (r : Option ℕ) (c : ℕ) → plus a r ≡ some c → (d : ℕ) × (r ≡ some d) × (c ≡ a + d)
 plus-some a none c e = absurd (none-some c e)
 plus-some a (some d) c e = (d, refl, sym (some-eq _ _ e))
+
+pub plusGap-some : (w : ℕ) (g : Gap) (r : Option ℕ) (c : ℕ) → plusGap w g r ≡ some c → (d : ℕ) × (g ≢ Never) × (r ≡ some d) × (c ≡ w * secondsOf g + d)
+plusGap-some w Never r c e = absurd (none-some c e)
+plusGap-some w (Lasting s) r c e = let (d, v, q) = plus-some (w * s .0) r c e in (d, not-never s, v, q)
+
+-- nothing is found through any gap where nothing is found after it
+pub plusGap-none : (w : ℕ) (g : Gap) → plusGap w g none ≡ none
+plusGap-none w Never = refl
+plusGap-none w (Lasting s) = refl
+
+-- where it is not never, a gap is its seconds
+pub plusGap-seconds : (w : ℕ) (g : Gap) (r : Option ℕ) → g ≢ Never → plusGap w g r ≡ plus (w * secondsOf g) r
+plusGap-seconds w Never r h = absurd (h refl)
+plusGap-seconds w (Lasting s) r h = refl
 
 -- ---- at most c is found
 
@@ -42,6 +60,10 @@ upto-only c false r t h = absurd t
 pub upto-plus : (c a : ℕ) (r : Option ℕ) → Upto c r → Upto (a + c) (plus a r)
 upto-plus c a none p = p
 upto-plus c a (some d) p = omega arith
+
+pub upto-plusGap : (c w : ℕ) (g : Gap) (r : Option ℕ) → g ≢ Never → Upto c r → Upto (w * secondsOf g + c) (plusGap w g r)
+upto-plusGap c w Never r n p = absurd (n refl)
+upto-plusGap c w (Lasting s) r n p = upto-plus c (w * s .0) r p
 
 pub upto-left : (c : ℕ) (a b : Option ℕ) → Upto c a → Upto c (lower a b)
 upto-left c none b p = absurd p

@@ -1,8 +1,10 @@
 -- A cost or none, and the least of some costs.
 use mathlib.Core.Bool.{Bool, true, false, cond}
 use mathlib.Core.Option.{Option, none, some}
-use Prim.Native.Nat.{ℕ, zero, suc, _+_, min}
+use Prim.Native.Nat.{ℕ, zero, suc, _+_, _*_, min}
 use lib.Dec.{leb}
+use Rattle.gaps.specs.declared.Gap.{Gap}
+use Rattle.gaps.specs.declared.Gap.the-variants.{Lasting, Never}
 
 -- r where a test holds
 abbrev pub only : Bool → Option ℕ → Option ℕ
@@ -13,6 +15,11 @@ only false r = none
 abbrev pub plus : ℕ → Option ℕ → Option ℕ
 plus c none = none
 plus c (some d) = some (c + d)
+
+-- w × a gap more; never is none before w is looked at, so with w = 0 too
+abbrev pub plusGap : ℕ → Gap → Option ℕ → Option ℕ
+plusGap w Never r = none
+plusGap w (Lasting s) r = plus (w * s .0) r
 
 -- the lower of two, where both are found
 abbrev pub lower : Option ℕ → Option ℕ → Option ℕ

@@ -10,3 +10,4 @@ pub mod Ties
 pub mod Entries
 pub mod Counts
 pub mod Limits
+pub mod Unforbidden

@@ -2,12 +2,12 @@
 use mathlib.Core.Bool.{cond}
 use mathlib.Core.List.{List, [], _∷_}
 use mathlib.Core.Option.{Option, some}
-use Prim.Native.Nat.{ℕ, zero, suc, _*_}
+use Prim.Native.Nat.{ℕ, zero, suc}
 use lib.Dec.{ltb, eqb}
 use Rattle.sequencing.specs.Lists.{at, sum, weigh}
 use Rattle.sequencing.specs.Problem.{Problem}
 use Rattle.sequencing.specs.States.{complete, K, allLeft, job, place, byHandIn}
-use Rattle.sequencing.specs.Least.{only, plus, least, argLeast}
+use Rattle.sequencing.specs.Least.{only, plusGap, least, argLeast}
 
 module _ (P : Problem) where
   -- 01's W: 1 under goal 1, the sum of k_j × w_j under goal 2, with the job to be completed still counted in k
@@ -18,9 +18,9 @@ module _ (P : Problem) where
   abbrev pub permit : ℕ → List ℕ → Option ℕ → Option ℕ
   permit L k r = only (ltb (at k L) (K P L)) (only (P .ok (job P L k) (place P k)) r)
 
-  -- W × gap(L, x) + r, where a job of x is left
+  -- W × gap(L, x) + r, where a job of x is left and may follow L
   abbrev pub step : ℕ → List ℕ → ℕ → Option ℕ → Option ℕ
-  step L k x r = only (ltb 0 (at k x)) (plus (W k * P .gap L x) r)
+  step L k x r = only (ltb 0 (at k x)) (plusGap (W k) (P .gap L x) r)
 
   -- 01's rule from (L; k) on, with n jobs left: the least over the next states, and none where they cannot fill the later places
   unfoldable pub toGo : ℕ → ℕ → List ℕ → Option ℕ

@@ -1,13 +1,14 @@
 -- A filled table, looked at from any k: what the callees may rely on, and that the least by the table is the recursion's.
 -- Assumes nothing.
 use Prim.Native.Nat.{ℕ, suc, _-_, _≤_, _<_}
-use mathlib.Core.Bool.{cond}
+use mathlib.Core.Bool.{Bool, cond}
 use mathlib.Core.List.{List}
 use mathlib.Core.Path.{_≡_, refl, sym, ap, _∙_}
 use native.Mathlib.Omega.{arith}
 use borrow.Author.Tests.{eq-eqb}
 use lib.Dec.{eqb}
 use lib.ListN.{length, getD, take}
+use Rattle.gaps.specs.Gaps.{hasNever}
 use Rattle.queue.specs.declared.Queue.{Queue}
 use Rattle.queue.specs.Record.{weight, Valid}
 use Rattle.sequencing.specs.Lists.{sum, weigh}
@@ -54,7 +55,7 @@ module _ {q : Queue} {l : Layout} (v : Valid q) (p : Prepared q l) {left : List 
   -- a look by the queue's own arrays
   pub own-looks : {table : List ℕ} → Earlier (problem q) table (block (problem q)) → entries (problem q) ≤ length table → length (q .gaps) ≡ 30
       → {jobs total : ℕ} → Summed (q .weights) (take (q .kinds) left) jobs total
-      → LooksAt q l table left (l .strides) (q .gaps) (l .size .block) (q .goal) (record { index = i; jobs = jobs; weight = total })
+      → LooksAt q l table left (l .strides) (q .gaps) (l .forbids) (l .size .block) (q .goal) (record { index = i; jobs = jobs; weight = total })
   own-looks all room long sums = record {
     valid = v;
     prepared = p;
@@ -65,6 +66,7 @@ module _ {q : Queue} {l : Layout} (v : Valid q) (p : Prepared q l) {left : List 
     strides-are = refl;
     gaps-are = refl;
     gaps-long = long;
+    forbids-is = refl;
     size-is = refl;
     goal-is = refl;
   }
@@ -88,8 +90,8 @@ module _ {q : Queue} {l : Layout} {table left : List ℕ} {i : ℕ} (look : Look
 
   -- what looking for the next kind may rely on
   pub may-look : (row : ℕ) → row ≤ q .kinds
-      → Loadable table left (l .strides) (l .size .block) i × (Ready (nextValues table left (l .strides) (l .size .block) i) (q .gaps) row w × (q .goal ≡ 1 → w ≡ 1))
-  may-look row u = (loadable look, (rw step-is (ready look row u), λ e. step ∙ rw (eq-eqb _ _ e)))
+      → Loadable table left (l .strides) (l .size .block) i × (Ready (nextValues table left (l .strides) (l .size .block) i) (q .gaps) row w × ((l .forbids ≡ hasNever (q .gaps)) × (q .goal ≡ 1 → w ≡ 1)))
+  may-look row u = (loadable look, (rw step-is (ready look row u), (look .prepared .forbids-is, λ e. step ∙ rw (eq-eqb _ _ e))))
 
   -- what is found is the recursion's choice
   pub looked : (row : ℕ) {r : Least} → IsLeast (q .goal) (candidate (nextValues table left (l .strides) (l .size .block) i) (q .gaps) row w) r → Chosen (problem q) (q .goal) row (kAt (problem q) i) r
@@ -102,7 +104,7 @@ module _ {q : Queue} {l : Layout} {table left : List ℕ} {i : ℕ} (look : Look
       }
 
 -- a look, by its arrays
-module _ {q : Queue} {l : Layout} {table left strides gaps : List ℕ} {size goal : ℕ} {k : JobsLeft} (a : LooksAt q l table left strides gaps size goal k) where
+module _ {q : Queue} {l : Layout} {table left strides gaps : List ℕ} {forbids : Bool} {size goal : ℕ} {k : JobsLeft} (a : LooksAt q l table left strides gaps forbids size goal k) where
   as-look : Look q l table left (k .index)
   as-look = whole (a .valid) (a .prepared) (a .left-is) (rw (a .gaps-are) at (a .gaps-long)) (a .filled) (a .room)
 
@@ -130,8 +132,8 @@ module _ {q : Queue} {l : Layout} {table left strides gaps : List ℕ} {size goa
     own-step = rw (a .goal-is) at step
 
     pub may-look-at : row ≤ q .kinds
-        → Loadable table left strides size (k .index) × (Ready (nextValues table left strides size (k .index)) gaps row w × (goal ≡ 1 → w ≡ 1))
-    may-look-at u = rw (a .strides-are, a .gaps-are, a .size-is, a .goal-is) (may-look as-look weight-is own-step row u)
+        → Loadable table left strides size (k .index) × (Ready (nextValues table left strides size (k .index)) gaps row w × ((forbids ≡ hasNever gaps) × (goal ≡ 1 → w ≡ 1)))
+    may-look-at u = rw (a .strides-are, a .gaps-are, a .forbids-is, a .size-is, a .goal-is) (may-look as-look weight-is own-step row u)
 
     -- something is left
     pub found-there : {r : Least} → (k .jobs ≡ 0 → ⊥) → IsLeast goal (candidate (nextValues table left strides size (k .index)) gaps row w) r

@@ -37,7 +37,7 @@ module _ (P : Problem) where
   pub takes-next : (L : ℕ) (k : List ℕ) (c : ℕ) → least (choice P L k) (P .N) ≡ some c → Takes P k (argLeast (choice P L k) (P .N))
   takes-next L k c e =
       let m = smallest (choice P L k) (P .N) c e in
-      let (d, h, v, _) = choice-some P L k (argLeast (choice P L k) (P .N)) c (m .reached) in
+      let (d, h, _, v, _) = choice-some P L k (argLeast (choice P L k) (P .N)) c (m .reached) in
       record {
         low = m .low;
         high = m .high;

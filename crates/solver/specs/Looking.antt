@@ -1,4 +1,5 @@
 -- A look into a filled table: from a row, with any jobs left.
+use mathlib.Core.Bool.{Bool}
 use mathlib.Core.List.{List}
 use mathlib.Core.Option.{none}
 use mathlib.Core.Path.{_≡_}
@@ -20,7 +21,7 @@ use Rattle.next_states.specs.declared.Least.{Least}
 use Rattle.filling.specs.Filling.{Earlier}
 
 -- the arrays of a look are a queue's: its filled table, its gaps, the strides of its entries, and one k of it with its sums
-pub record LooksAt (q : Queue) (l : Layout) (table left strides gaps : List ℕ) (size goal : ℕ) (k : JobsLeft) : Type 0 where
+pub record LooksAt (q : Queue) (l : Layout) (table left strides gaps : List ℕ) (forbids : Bool) (size goal : ℕ) (k : JobsLeft) : Type 0 where
   pub valid : Valid q
   pub prepared : Prepared q l
   pub filled : Earlier (problem q) table (block (problem q))
@@ -30,6 +31,7 @@ pub record LooksAt (q : Queue) (l : Layout) (table left strides gaps : List ℕ)
   pub strides-are : strides ≡ l .strides
   pub gaps-are : gaps ≡ q .gaps
   pub gaps-long : length gaps ≡ 30
+  pub forbids-is : forbids ≡ l .forbids
   pub size-is : size ≡ l .size .block
   pub goal-is : goal ≡ q .goal
 

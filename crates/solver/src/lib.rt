@@ -31,13 +31,14 @@ pub fn look(
     left: &[u32],
     strides: &[usize],
     gaps: &[u32],
+    forbids: bool,
     block: usize,
     goal: u32,
     k: JobsLeft,
     row: usize,
 ) -> Least
-    requires { ⌜ ((q : Queue) × (l : Layout) × (LooksAt q l (now table) (now left) (now strides) (now gaps) block goal k × (row ≤ q .kinds))) ⌝ }
-    ensures { λ r. ⌜ ((q : Queue) (l : Layout) → LooksAt q l (now (table .entry)) (now (left .entry)) (now (strides .entry)) (now (gaps .entry)) block goal k → LookedUp q row (kAt (problem q) (k .index)) r) ⌝ }
+    requires { ⌜ ((q : Queue) × (l : Layout) × (LooksAt q l (now table) (now left) (now strides) (now gaps) forbids block goal k × (row ≤ q .kinds))) ⌝ }
+    ensures { λ r. ⌜ ((q : Queue) (l : Layout) → LooksAt q l (now (table .entry)) (now (left .entry)) (now (strides .entry)) (now (gaps .entry)) forbids block goal k → LookedUp q row (kAt (problem q) (k .index)) r) ⌝ }
 {
     if k.jobs == 0 {
         return Least {
@@ -51,6 +52,7 @@ pub fn look(
         left,
         strides,
         gaps,
+        forbids,
         block,
         k.index,
         row,
@@ -80,6 +82,7 @@ fn first_choice(queue: Queue, layout: Layout, table: &[u64]) -> Least
         &counts,
         &strides,
         &gaps,
+        layout.forbids,
         size.block,
         queue.goal,
         all,
@@ -134,6 +137,7 @@ pub fn follow(
     let jobs = layout.jobs;
     let begins = layout.begins;
     let strides = layout.strides;
+    let forbids = layout.forbids;
     let mut order = [0u8; 60];
     let mut left = from;
     let mut weight = jobs_left::weight_left(&left, &weights, size.kinds);
@@ -149,6 +153,7 @@ pub fn follow(
             &left,
             &strides,
             &gaps,
+            forbids,
             size.block,
             at,
             kind,

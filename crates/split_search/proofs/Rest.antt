@@ -153,7 +153,7 @@ module _ {q : Queue} {l : Layout} {table left counts strides gaps : List ℕ} {g
         }
 
     -- the look at them
-    pub rest-looks : LooksAt q l table rest strides gaps (b .size .block) goal
+    pub rest-looks : LooksAt q l table rest strides gaps (b .forbids) (b .size .block) goal
         (record { index = mirrored; jobs = b .size .jobs - k .jobs; weight = b .weight - k .weight })
     rest-looks = record {
       valid = s .looks .valid;
@@ -168,6 +168,7 @@ module _ {q : Queue} {l : Layout} {table left counts strides gaps : List ℕ} {g
       strides-are = s .looks .strides-are;
       gaps-are = s .looks .gaps-are;
       gaps-long = s .looks .gaps-long;
+      forbids-is = s .looks .forbids-is;
       size-is = s .looks .size-is;
       goal-is = s .looks .goal-is;
     }

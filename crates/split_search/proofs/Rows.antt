@@ -1,5 +1,6 @@
 -- A row's own entry: it lies within the table, and where it holds a value that is the cost of what is left after the row.
 -- Assumes nothing.
+use mathlib.Core.Bool.{Bool}
 use mathlib.Core.List.{List}
 use mathlib.Core.Logic.{_≢_}
 use mathlib.Core.Path.{_≡_, sym, ap, _∙_}
@@ -20,8 +21,8 @@ use Rattle.layout.specs.declared.Layout.{Layout}
 use Rattle.filling.proofs.Tables.{entry-below}
 use Rattle.solver.specs.Looking.{LooksAt}
 
-module _ {q : Queue} {l : Layout} {table left strides gaps : List ℕ} {size goal : ℕ} {k : JobsLeft}
-    (s : LooksAt q l table left strides gaps size goal k) (row : ℕ) (some-row : 0 < row) (row-in : row ≤ q .kinds) where
+module _ {q : Queue} {l : Layout} {table left strides gaps : List ℕ} {forbids : Bool} {size goal : ℕ} {k : JobsLeft}
+    (s : LooksAt q l table left strides gaps forbids size goal k) (row : ℕ) (some-row : 0 < row) (row-in : row ≤ q .kinds) where
   abbrev P : Problem
   P = problem q
 

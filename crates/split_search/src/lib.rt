@@ -36,12 +36,13 @@ pub struct Split {
     pub counts: [u32; 5],
 }
 
-// What is the same for all splits: N, T and P, the weight of all jobs, and both cutters' start kinds.
+// What is the same for all splits: N, T and P, the weight of all jobs, both cutters' start kinds, and whether any gap is never.
 pub struct Bench {
     pub size: Size,
     pub weight: u64,
     pub start: usize,
     pub second: usize,
+    pub forbids: bool,
 }
 
 // How many of each kind the second cutter has.
@@ -64,13 +65,14 @@ fn cost_after(
     left: &[u32],
     strides: &[usize],
     gaps: &[u32],
+    forbids: bool,
     block: usize,
     goal: u32,
     k: JobsLeft,
     row: usize,
 ) -> Cost
-    requires { ⌜ ((q : Queue) × (l : Layout) × (LooksAt q l (now table) (now left) (now strides) (now gaps) block goal k × (row ≤ q .kinds))) ⌝ }
-    ensures { λ r. ⌜ ((q : Queue) (l : Layout) → LooksAt q l (now (table .entry)) (now (left .entry)) (now (strides .entry)) (now (gaps .entry)) block goal k → row ≤ q .kinds → r ≡ costIn (q .goal) (stored (costToGo (problem q) row (kAt (problem q) (k .index))))) ⌝ }
+    requires { ⌜ ((q : Queue) × (l : Layout) × (LooksAt q l (now table) (now left) (now strides) (now gaps) forbids block goal k × (row ≤ q .kinds))) ⌝ }
+    ensures { λ r. ⌜ ((q : Queue) (l : Layout) → LooksAt q l (now (table .entry)) (now (left .entry)) (now (strides .entry)) (now (gaps .entry)) forbids block goal k → row ≤ q .kinds → r ≡ costIn (q .goal) (stored (costToGo (problem q) row (kAt (problem q) (k .index))))) ⌝ }
 {
     if 0 < row {
         let value = table[(row - 1) * block + k.index];
@@ -78,7 +80,7 @@ fn cost_after(
             return units::cost_in(goal, value);
         }
     }
-    let found = solver::look(table, left, strides, gaps, block, goal, k, row);
+    let found = solver::look(table, left, strides, gaps, forbids, block, goal, k, row);
     found.cost
 }
 
@@ -100,7 +102,18 @@ fn split_cost(
     ensures { λ r. ⌜ ((q : Queue) (l : Layout) → SplitsAt q l (now (table .entry)) (now (left .entry)) (now (counts .entry)) (now (strides .entry)) (now (gaps .entry)) goal bench k → r ≡ costIn (q .goal) (costUpto (problem q) (bench .second) (numberOf most) (k .index))) ⌝ }
 {
     let size = bench.size;
-    let cost = cost_after(table, left, strides, gaps, size.block, goal, k, bench.start);
+    let forbids = bench.forbids;
+    let cost = cost_after(
+        table,
+        left,
+        strides,
+        gaps,
+        forbids,
+        size.block,
+        goal,
+        k,
+        bench.start,
+    );
     if most.less(cost) {
         return units::cost_in(goal, cost.number());
     }
@@ -114,7 +127,17 @@ fn split_cost(
         weight: bench.weight - k.weight,
     };
     let row = bench.second;
-    let other = cost_after(table, &rest, strides, gaps, size.block, goal, rest_k, row);
+    let other = cost_after(
+        table,
+        &rest,
+        strides,
+        gaps,
+        forbids,
+        size.block,
+        goal,
+        rest_k,
+        row,
+    );
     if other.number() == next_states::NONE {
         return units::cost_in(goal, next_states::NONE);
     }
@@ -186,6 +209,7 @@ pub fn best_split(queue: Queue, layout: Layout, table: &[u64], second: usize) ->
         weight: jobs_left::weight_left(&counts, &weights, size.kinds),
         start: queue.start as usize,
         second,
+        forbids: layout.forbids,
     };
     let mut left = [0u32; 5];
     let goal = queue.goal;
@@ -244,7 +268,17 @@ fn share_order(
         weight: jobs_left::weight_left(&left, &weights, size.kinds),
     };
     let block = size.block;
-    let first = solver::look(table, &left, &strides, &gaps, block, queue.goal, k, row);
+    let first = solver::look(
+        table,
+        &left,
+        &strides,
+        &gaps,
+        layout.forbids,
+        block,
+        queue.goal,
+        k,
+        row,
+    );
     solver::follow(
         queue,
         layout,

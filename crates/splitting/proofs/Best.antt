@@ -1,5 +1,5 @@
--- The split taken: it is a split and costs what it says, no split costs less, it is 02's first among equal costs, and there is none exactly where
--- there is no split.
+-- The split taken: it is a split, is permitted and costs what it says, no permitted split costs less, it is 02's first among equal costs, and there
+-- is none exactly where no split is permitted.
 -- Assumes nothing.
 use mathlib.Core.List.{List, []}
 use mathlib.Core.Logic.{inl, inr, _↔_, _≢_}
@@ -11,18 +11,18 @@ use native.Mathlib.Omega.{arith}
 use lib.Dec.{eqb}
 use lib.ListN.{length, length-map}
 use Rattle.sequencing.specs.Lists.{upto, sum}
-use Rattle.sequencing.specs.Problem.{Problem, T, kind, Proper}
+use Rattle.sequencing.specs.Problem.{Problem, T, kind, Proper, NoneForbidden}
 use Rattle.sequencing.specs.Orders.{finishes, makespan, weightedCompletion, cost}
 use Rattle.sequencing.specs.States.{allLeft, IsLeft}
 use Rattle.sequencing.specs.Recursion.{costToGo, planCost}
 use Rattle.sequencing.proofs.AllJobs.{at-all, length-all, sum-all, all-left, below-all}
 use Rattle.sequencing.proofs.Options.{some-eq, none-some, Upto}
-use Rattle.splitting.specs.Splits.{onCutter, ofBoth, IsSplit, splitCost}
+use Rattle.splitting.specs.Splits.{onCutter, ofBoth, IsSplit, SplitPermitted, splitCost}
 use Rattle.splitting.specs.Shares.{share, shareOrder, firstShare, secondShare}
 use Rattle.splitting.specs.Taken.{both, countsCost, takenCost, takenCounts, firstOrder, secondOrder, Taken}
 use Rattle.splitting.proofs.Lists.{same-at, count-length}
 use Rattle.splitting.proofs.Bridge.{Alike, plan-bridge}
-use Rattle.splitting.proofs.Shares.{in-turn, Planned, share-proper, planned, planned-least}
+use Rattle.splitting.proofs.Shares.{in-turn, Planned, share-proper, listed-free, planned, planned-least}
 use Rattle.splitting.proofs.Counts.{Together, split-together, together-split, among, together-kinds, shares-together, in-shares, first-counts, second-K}
 use Rattle.splitting.proofs.Least.{Within, least-below, least-within, least-first}
 use Rattle.splitting.proofs.Precedes.{precedes-one}
@@ -96,12 +96,12 @@ module _ (P : Problem) (proper : Proper P) (s : ℕ) where
         (same-plan P (P .start) (firstShare P theirs) a (first-counts P theirs theirs-left (P .start)))
         (same-plan P s (secondShare P theirs) b others-same)
 
-    -- those counts have a cost, and no greater one
-    counts-least : (d : ℕ) × (countsCost P s theirs ≡ some d) × (d ≤ splitCost P s a b)
+    -- where neither has a forbidden succession, those counts have a cost, and no greater one
+    counts-least : SplitPermitted P s a b → (d : ℕ) × (countsCost P s theirs ≡ some d) × (d ≤ splitCost P s a b)
     unfolding splitCost
-    counts-least =
-        let (c, p, l) = planned-least P (P .start) a proper (λ z h. among P a b t z (omega arith)) in
-        let (d, q, m) = planned-least P s b proper (λ z h. among P a b t z (omega arith)) in
+    counts-least g =
+        let (c, p, l) = planned-least P (P .start) a proper (λ z h. among P a b t z (omega arith)) (g .first) in
+        let (d, q, m) = planned-least P s b proper (λ z h. among P a b t z (omega arith)) (g .second) in
         (ofBoth (P .goal) c d, counts-cost ∙ ap₂ (both (P .goal)) p q, both-mono (P .goal) c d (cost P a) (cost (onCutter P s) b) l m)
 
   -- ---- the split by counts
@@ -116,6 +116,9 @@ module _ (P : Problem) (proper : Proper P) (s : ℕ) where
     counts-split : IsSplit P (shareOrder P (P .start) (firstShare P n)) (shareOrder P s (secondShare P n))
     counts-split = together-split P (shareOrder P (P .start) (firstShare P n)) (shareOrder P s (secondShare P n))
         (λ z. omega (arith, on-first .jobs z, on-second .jobs z, shares-together P n z))
+
+    counts-permitted : SplitPermitted P s (shareOrder P (P .start) (firstShare P n)) (shareOrder P s (secondShare P n))
+    counts-permitted = record { first = on-first .successions; second = on-second .successions }
 
     counts-costs : splitCost P s (shareOrder P (P .start) (firstShare P n)) (shareOrder P s (secondShare P n)) ≡ c
     unfolding splitCost
@@ -159,6 +162,11 @@ module _ (P : Problem) (proper : Proper P) (s : ℕ) where
     unfolding firstOrder secondOrder
     is-split = counts-split (takenCounts P s) c (taken .reached)
 
+    -- neither cutter has a forbidden succession
+    pub split-permitted : SplitPermitted P s (firstOrder P s) (secondOrder P s)
+    unfolding firstOrder secondOrder
+    split-permitted = counts-permitted (takenCounts P s) c (taken .reached)
+
     -- as many to the first as its counts say
     pub first-long : length (firstOrder P s) ≡ sum (takenCounts P s)
     unfolding firstOrder
@@ -170,29 +178,39 @@ module _ (P : Problem) (proper : Proper P) (s : ℕ) where
     split-costs = counts-costs (takenCounts P s) c (taken .reached)
 
     -- 02's "no other split, in any order on either cutter, costing less"
-    pub split-least : (o₁ o₂ : List ℕ) → IsSplit P o₁ o₂ → c ≤ splitCost P s o₁ o₂
-    split-least o₁ o₂ i =
+    pub split-least : (o₁ o₂ : List ℕ) → IsSplit P o₁ o₂ → SplitPermitted P s o₁ o₂ → c ≤ splitCost P s o₁ o₂
+    split-least o₁ o₂ i g =
         let t = split-together P o₁ o₂ i in
-        let (d, q, l) = counts-least o₁ o₂ t in
+        let (d, q, l) = counts-least o₁ o₂ t g in
         omega (arith, l, taken .bound (theirs o₁ o₂ t) d (theirs-left o₁ o₂ t) q)
 
-  -- 17's "exactly": none is taken where there is no split, and only there
-  pub no-split : (takenCost P s ≡ none) ↔ ((o₁ o₂ : List ℕ) → IsSplit P o₁ o₂ → ⊥)
+  -- 17's "exactly": none is taken where no split is permitted, and only there
+  pub no-split : (takenCost P s ≡ none) ↔ ((o₁ o₂ : List ℕ) → IsSplit P o₁ o₂ → SplitPermitted P s o₁ o₂ → ⊥)
   no-split = (to, of (takenCost P s) refl)
     where
-      to : takenCost P s ≡ none → (o₁ o₂ : List ℕ) → IsSplit P o₁ o₂ → ⊥
-      to e o₁ o₂ i =
+      to : takenCost P s ≡ none → (o₁ o₂ : List ℕ) → IsSplit P o₁ o₂ → SplitPermitted P s o₁ o₂ → ⊥
+      to e o₁ o₂ i g =
           let t = split-together P o₁ o₂ i in
-          let (d, q, l) = counts-least o₁ o₂ t in
+          let (d, q, l) = counts-least o₁ o₂ t g in
           rw e at (taken-below (theirs o₁ o₂ t) d (theirs-left o₁ o₂ t) q)
 
-      of : (r : Option ℕ) → takenCost P s ≡ r → ((o₁ o₂ : List ℕ) → IsSplit P o₁ o₂ → ⊥) → takenCost P s ≡ none
+      of : (r : Option ℕ) → takenCost P s ≡ r → ((o₁ o₂ : List ℕ) → IsSplit P o₁ o₂ → SplitPermitted P s o₁ o₂ → ⊥) → takenCost P s ≡ none
       of none e h = e
-      of (some c) e h = absurd (h (firstOrder P s) (secondOrder P s) (is-split c e))
+      of (some c) e h = absurd (h (firstOrder P s) (secondOrder P s) (is-split c e) (split-permitted c e))
 
-  -- so there always is one, since all jobs can go to the second cutter
-  pub always-split : takenCost P s ≢ none
-  always-split e = no-split .0 e [] (upto (T P)) (in-turn P)
+  module _ (free : NoneForbidden P) (l : P .start ≤ P .N) (h : s ≤ P .N) where
+    -- where nothing is forbidden each split is permitted, as in S-1 ..
+    pub split-free : (o₁ o₂ : List ℕ) → IsSplit P o₁ o₂ → SplitPermitted P s o₁ o₂
+    split-free o₁ o₂ i =
+        let t = split-together P o₁ o₂ i in
+        record {
+          first = listed-free P (P .start) o₁ proper (λ z c. among P o₁ o₂ t z (omega arith)) free l;
+          second = listed-free P s o₂ proper (λ z c. among P o₁ o₂ t z (omega arith)) free h;
+        }
+
+    -- .. and so there always is one, since all jobs can go to the second cutter
+    pub always-split : takenCost P s ≢ none
+    always-split e = no-split .0 e [] (upto (T P)) (in-turn P) (split-free [] (upto (T P)) (in-turn P))
 
   -- what 02's sentence says is one split
   pub taken-one : (m n : List ℕ) (c d : ℕ) → Taken P s m c → Taken P s n d → (m ≡ n) × (c ≡ d)

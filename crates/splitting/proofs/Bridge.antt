@@ -7,13 +7,13 @@ use mathlib.Core.Logic.{inl, inr}
 use mathlib.Core.Option.{Option, some}
 use mathlib.Core.Path.{_≡_, refl, sym, ap, ap₂, _∙_, fun-ext}
 use mathlib.Mathlib.Data.Bool.Basic.{dichotomy}
-use Prim.Native.Nat.{ℕ, zero, suc, _*_, _<_}
+use Prim.Native.Nat.{ℕ, zero, suc, _<_}
 use native.Mathlib.Omega.{arith}
 use lib.Dec.{T as Is, ltb, lt→ltb, ltb→lt}
 use Rattle.sequencing.specs.Lists.{at, sum}
 use Rattle.sequencing.specs.Problem.{Problem, AllPermitted}
 use Rattle.sequencing.specs.States.{complete, K, allLeft, IsLeft, job, place}
-use Rattle.sequencing.specs.Least.{only, plus, least, argLeast}
+use Rattle.sequencing.specs.Least.{only, plusGap, least, argLeast}
 use Rattle.sequencing.specs.Recursion.{W, costToGo, value, choice, walk, planCost, planKinds}
 use Rattle.sequencing.proofs.Counting.{one-self}
 use Rattle.sequencing.proofs.Vectors.{complete-sum}
@@ -61,7 +61,7 @@ module _ (P Q : Problem) (a : Alike P Q) where
   choice-same L k p q same = fun-ext (λ x. elim (dichotomy (ltb 0 (at k x))) [
     | inr e ↦ (let h : 0 < at k x = ltb→lt 0 (at k x) (rw e tt) in
         let v = value-is P (a .permitted-P) k x p h ∙ same x h ∙ sym (value-is Q (a .permitted-Q) k x q h) in
-        ap₂ (λ c r. only (ltb 0 (at k x)) (plus c r)) (ap₂ _*_ (weight-same k) (ap (λ g. g L x) (a .gap))) v)
+        ap₂ (λ (f : Option ℕ → Option ℕ) r. only (ltb 0 (at k x)) (f r)) (ap₂ plusGap (weight-same k) (ap (λ g. g L x) (a .gap))) v)
     | inl e ↦ rw e refl
   ])
 
@@ -80,7 +80,7 @@ module _ (P Q : Problem) (a : Alike P Q) where
   walk-bridge (suc n) L k c e p q t =
       let x : ℕ = argLeast (choice P L k) (P .N) in
       let m = smallest (choice P L k) (P .N) c (sym (cost-some-left P L k (omega arith)) ∙ t) in
-      let (d, h, v, w) = choice-some P L k x c (m .reached) in
+      let (d, h, f, v, w) = choice-some P L k x c (m .reached) in
       let same = choice-same L k p q
       (λ y g. value-bridge (sum (complete k y)) y (complete k y) refl (complete-left P k y p g) (complete-left Q k y q g)) in
       let later = walk-bridge n x (complete k x) d (omega (arith, complete-sum k x h)) (complete-left P k x p h) (complete-left Q k x q h)

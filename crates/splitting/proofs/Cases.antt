@@ -9,6 +9,7 @@ use Rattle.sequencing.specs.Orders.{cost, finishes, makespan, weightedCompletio
 use Rattle.sequencing.specs.States.{jobsOf, allLeft, byHandIn}
 use Rattle.sequencing.specs.Least.{least, argLeast}
 use Rattle.sequencing.specs.Recursion.{W, toGo, value, choice, walk, planCost, planKinds, planOrder}
+use Rattle.problem.specs.PlaceRule.{allowed}
 use Rattle.splitting.specs.Splits.{splitCost}
 use Rattle.splitting.specs.Shares.{shareOrder, isEarly, firstShare, secondShare}
 use Rattle.splitting.specs.Taken.{leastCost, leastCounts, countsCost, takenCost, takenCounts, firstOrder, secondOrder}
@@ -16,7 +17,7 @@ use Rattle.splitting.specs.Covers.{covers}
 use Rattle.splitting.specs.Cases.{Cases}
 
 pub cases : Cases
-unfolding takenCost takenCounts firstOrder secondOrder splitCost countsCost leastCost leastCounts isEarly firstShare secondShare shareOrder planCost planKinds planOrder value toGo choice walk byHandIn least argLeast W allLeft jobsOf sum weigh filter from cost finishes makespan weightedCompletion tabulate placed covers all
+unfolding takenCost takenCounts firstOrder secondOrder splitCost countsCost leastCost leastCounts isEarly firstShare secondShare shareOrder planCost planKinds planOrder value toGo choice walk byHandIn least argLeast W allLeft jobsOf sum weigh filter from cost finishes makespan weightedCompletion tabulate placed allowed covers all
 cases = record {
   A-cold = refl;
   A-after-1 = refl;
@@ -31,6 +32,20 @@ cases = record {
   H-cold = refl;
   source-costs = refl;
   source-split = refl;
+  apart-alone = refl;
+  apart-two = refl;
+  apart-warm = refl;
+  apart-three = refl;
+  apart-one = refl;
+  apart-none = refl;
+  first-cold = refl;
+  second-cold = refl;
+  both-cold = refl;
+  not-1-first-split = refl;
+  no-repeat-costs = refl;
+  no-repeat-split = refl;
+  no-pupils-costs = refl;
+  no-pupils-split = refl;
   shift-enough = refl;
   shift-short = refl;
   first-place = refl;

@@ -12,10 +12,10 @@ use Rattle.filling.proofs.fill.Statement.{statement}
 use Rattle.filling.proofs.fill.Tie as tie
 
 abbrev Inv-loop : tie.InvT-loop
-Inv-loop queue table₀ size gaps weights counts strides slots earliest latest left₀ k₀ feasible₀ table left k feasible = UpTo queue table₀ table left feasible k
+Inv-loop queue table₀ size gaps weights counts strides slots earliest latest forbids left₀ k₀ feasible₀ table left k feasible = UpTo queue table₀ table left feasible k
 
 abbrev μ-loop : tie.MeasureT-loop
-μ-loop queue table₀ size gaps weights counts strides slots earliest latest left₀ k₀ feasible₀ table left k feasible = size .block - k .index
+μ-loop queue table₀ size gaps weights counts strides slots earliest latest forbids left₀ k₀ feasible₀ table left k feasible = size .block - k .index
 
 -- the function's entry, from where the arrays were copied
 abbrev counted : tie.After-counts Inv-loop μ-loop → tie.Start Inv-loop μ-loop
@@ -53,7 +53,7 @@ slice-aggregate-fill-states-5 : tie.Need-slice-aggregate-fill-states-5 Inv-loop 
 slice-aggregate-fill-states-5 c = let s = look (lent (c .before .before .before .before)) in sym (latest-long (s .valid) (s .prepared))
 
 fill-states-requires : tie.Need-fill-states-requires Inv-loop μ-loop
-fill-states-requires c κs = let t = lent (c .before .before .before .before .before) in fillable _ (look t) (loop t .loop .inv .counting .summed)
+fill-states-requires c κs = let t = lent (c .before .before .before .before .before) in (fillable _ (look t) (loop t .loop .inv .counting .summed), look t .prepared .forbids-is)
 
 add-feasible : tie.Need-add-feasible Inv-loop μ-loop
 add-feasible c =

@@ -2,8 +2,8 @@
 -- Assumes nothing.
 use Prim.Native.Nat.{suc}
 use mathlib.Core.List.{map}
-use mathlib.Core.Path.{refl, ap, _∙_}
-use lib.ListN.{take}
+use mathlib.Core.Path.{_≡_, refl, sym, ap, _∙_}
+use lib.ListN.{length, take}
 use Rattle.fields.specs.Lists.{filled}
 use Rattle.sequencing.specs.Lists.{upto}
 use Rattle.sequencing.specs.Entries.{size, stride}
@@ -31,10 +31,17 @@ set-strides-requires c κs =
     let valid = at-entry listed .pre in
     (search needs, search needs, λ j h. rw (listed .list-jobs .ensures .0) (counts-small _ valid (suc j)))
 
+abbrev at-strides : tie.After-gaps2 → tie.After-set-strides
+at-strides c = c .before .before .before
+
+gaps-long : (c : tie.Start) → length (c .args .queue .gaps) ≡ 30
+gaps-long c = search needs
+
 returns : tie.Need-returns
 returns c =
-    let strides = c .before .set-strides in
-    let placed = at-placed (c .before .before) in
+    let multiplied = at-strides (c .before) in
+    let strides = multiplied .set-strides in
+    let placed = at-placed (multiplied .before) in
     let listed = at-jobs placed in
     let q = at-entry listed .args .queue in
     let all = ap (take (q .kinds)) (listed .list-jobs .ensures .0) ∙ counts-all q (at-entry listed .pre) in
@@ -49,9 +56,11 @@ returns c =
       latest-are = placed .set-places .ensures .1 .1;
       slots-are = placed .set-places .ensures .0;
       strides-are = strides .ensures .1 ∙ ap (λ cs. filled 5 (map (stride cs) (upto (q .kinds)))) all;
+      forbids-is = c .has-never .ensures;
     }
 
 pub prepare-spec : {M : Type 1} → statement M
 prepare-spec =
     tie.close (tie.spec (λ c. search needs) (λ c. search needs) (λ c. search needs) (λ c. search needs) (λ c κs. search needs) (λ c. search needs)
-    (λ c. search needs) (λ c. search needs) (λ c. search needs) (λ c κs. search needs) (λ c. search needs) set-strides-requires returns)
+    (λ c. search needs) (λ c. search needs) (λ c. search needs) (λ c κs. search needs) (λ c. search needs) set-strides-requires
+    (λ c. sym (gaps-long (at-entry (at-jobs (at-placed (at-strides c .before)))))) (λ c κs. search needs) returns)

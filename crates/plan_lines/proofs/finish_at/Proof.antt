@@ -4,8 +4,8 @@ use Prim.Native.Nat.{_-_}
 use mathlib.Core.Path.{_≡_}
 use native.Mathlib.Omega.{arith}
 use lib.ListN.{length}
+use Rattle.gaps.specs.Gaps.{gapBetween}
 use Rattle.sequencing.specs.Problem.{kind as kindIn}
-use Rattle.queue.specs.Record.{gap}
 use Rattle.problem.specs.OfQueue.{problem}
 use Rattle.plan_lines.proofs.Finishing.{finish-past, Cutting, cutting-none, cutting-more, cutting-done}
 use borrow.Author.Needs.{needs}
@@ -13,7 +13,7 @@ use Rattle.plan_lines.proofs.finish_at.Statement.{statement}
 use Rattle.plan_lines.proofs.finish_at.Tie as tie
 
 abbrev Inv-loop : tie.InvT-loop
-Inv-loop queue place order finish₀ row₀ k₀ finish row k = Cutting (gap queue) (kindIn (problem queue)) (queue .start) order place row (finish .0) k
+Inv-loop queue place order finish₀ row₀ k₀ finish row k = Cutting (gapBetween (queue .gaps)) (kindIn (problem queue)) (queue .start) order place row (finish .0) k
 
 abbrev μ-loop : tie.MeasureT-loop
 μ-loop queue place order finish₀ row₀ k₀ finish row k = place - k
@@ -25,12 +25,12 @@ sixty c = search needs
 returns : tie.Need-returns Inv-loop μ-loop
 returns c =
     let args = c .before .args in
-    finish-past (gap (args .queue)) (kindIn (problem (args .queue))) _ (args .t2) (args .place) (omega (arith, sixty (c .before)))
+    finish-past (gapBetween (args .queue .gaps)) (kindIn (problem (args .queue))) _ (args .t2) (args .place) (omega (arith, sixty (c .before)))
 
 loop-again : tie.Need-loop-again Inv-loop μ-loop
 loop-again c =
     let start = c .before .before .before .before .before .before in
-    cutting-more (gap (start .args .queue)) (kindIn (problem (start .args .queue))) _ _ _ _ _ _ (c .before .before .before .before .loop .inv) (c .before .before .before .loop-test .taken) (omega (arith, sixty start))
+    cutting-more (gapBetween (start .args .queue .gaps)) (kindIn (problem (start .args .queue))) _ _ _ _ _ _ (c .before .before .before .before .loop .inv) (c .before .before .before .loop-test .taken) (omega (arith, sixty start))
     _ _ _ (c .before .before .kind-of .ensures) (c .before .gap-seconds .ensures .0) (c .before .gap-seconds .ensures .1) (c .plus .ensures)
 
 pub finish-at-spec : {M : Type 1} → statement M

@@ -17,7 +17,7 @@ use Rattle.queue_writer.proofs.judge_gaps.Statement.{statement}
 use Rattle.queue_writer.proofs.judge_gaps.Tie as tie
 
 abbrev Inv-loop : tie.InvT-loop
-Inv-loop gaps kinds row₀ row = let rows = gapRows gaps kinds in Testing (λ _. all (within 0 65535)) kept rows (kinds + 1) (all (all (within 0 65535)) rows) tt row
+Inv-loop gaps kinds row₀ row = let rows = gapRows gaps kinds in Testing (λ _. all (within 0 65536)) kept rows (kinds + 1) (all (all (within 0 65536)) rows) tt row
 
 abbrev μ-loop : tie.MeasureT-loop
 μ-loop gaps kinds row₀ row = kinds + 1 - row

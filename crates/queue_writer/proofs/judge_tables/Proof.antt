@@ -20,7 +20,7 @@ lengths c = search needs
 abbrev at-entry : tie.Else1 → tie.Start
 at-entry c = c .before .before .before .before .before
 
-gaps-ok : (c : tie.Else1) → all (all (within 0 65535)) (rows (at-entry c .args .queue)) ≡ true
+gaps-ok : (c : tie.Else1) → all (all (within 0 65536)) (rows (at-entry c .args .queue)) ≡ true
 gaps-ok c = sym (c .before .judge-gaps .ensures) ∙ not-false _ (c .if1 .left)
 
 -- the weights

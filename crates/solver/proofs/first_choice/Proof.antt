@@ -32,7 +32,7 @@ sized : (c : tie.Start) → (length (c .args .queue .weights) ≡ 5) × (length 
 sized c = (search needs, search needs)
 
 looks : (c : tie.After-weight-left) → let a = start c .args in
-    LooksAt (a .queue) (a .layout) (a .table .now) (a .layout .counts) (a .layout .strides) (a .queue .gaps) (a .layout .size .block) (a .queue .goal)
+    LooksAt (a .queue) (a .layout) (a .table .now) (a .layout .counts) (a .layout .strides) (a .queue .gaps) (a .layout .forbids) (a .layout .size .block) (a .queue .goal)
     (record { index = a .layout .size .block - 1; jobs = a .layout .size .jobs; weight = c .weight-left .result })
 looks c =
     let (v, (p, (filled, room))) = start c .pre in

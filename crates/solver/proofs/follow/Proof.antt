@@ -13,11 +13,11 @@ use Rattle.solver.proofs.follow.Statement.{statement}
 use Rattle.solver.proofs.follow.Tie as tie
 
 abbrev Inv-loop : tie.InvT-loop
-Inv-loop queue table index first places upto size gaps weights jobs begins strides order₀ left₀ weight₀ kind₀ at₀ place₀ order left weight kind at place =
+Inv-loop queue table index first places upto size gaps weights jobs begins strides forbids order₀ left₀ weight₀ kind₀ at₀ place₀ order left weight kind at place =
     Following queue upto index first places order left weight kind at place
 
 abbrev μ-loop : tie.MeasureT-loop
-μ-loop queue table index first places upto size gaps weights jobs begins strides order₀ left₀ weight₀ kind₀ at₀ place₀ order left weight kind at place = places - place
+μ-loop queue table index first places upto size gaps weights jobs begins strides forbids order₀ left₀ weight₀ kind₀ at₀ place₀ order left weight kind at place = places - place
 
 -- the places: the function's entry, a turn, and the turn with its job taken
 abbrev copied : tie.After-begins Inv-loop μ-loop → tie.Start Inv-loop μ-loop

@@ -65,7 +65,7 @@ here c = let g = given (entry c) in left-here (g .valid) (g .prepared) (loop c .
 -- what the cost of a turn's split is found from
 splitting : (c : tie.Then1 Inv-loop μ-loop) → let a = entry c .args in
     SplitsAt (a .queue) (a .layout) (a .table .now) (loop c .loop .left) (a .layout .counts) (a .layout .strides) (a .queue .gaps) (a .queue .goal)
-    (record { size = a .layout .size; weight = weighed (loop c .before) .weight-left .result; start = a .queue .start; second = a .second }) (loop c .loop .k)
+    (record { size = a .layout .size; weight = weighed (loop c .before) .weight-left .result; start = a .queue .start; second = a .second; forbids = a .layout .forbids }) (loop c .loop .k)
 splitting c = splits (given (entry c)) (here c) (loop c .loop .inv .counting .summed) (weighed (loop c .before) .weight-left .ensures)
 
 weight-left-requires : tie.Need-weight-left-requires Inv-loop μ-loop
