@@ -34,6 +34,10 @@ gap-never = refl
 pub gap-seconds : (g : ℕ) → g ≢ 65536 → asGap g ≡ lasting g
 gap-seconds g h = rw (ne-eqb g 65536 h) refl
 
+-- as a time that was made of it
+pub gap-lasts : {s : Seconds} (g : ℕ) → s .0 ≡ g → g ≢ 65536 → asGap g ≡ Lasting s
+gap-lasts g e h = gap-seconds g h ∙ ap lasting (sym e)
+
 -- so no gap up to 65536 has more than 65535 seconds
 pub gap-le : (g : ℕ) → g ≤ 65536 → secondsOf (asGap g) ≤ 65535
 gap-le g h = elim (eq-or-lt-of-le h) [ inl e ↦ rw e (omega arith) | inr l ↦ rw (gap-seconds g (λ e. omega arith)) (omega arith) ]

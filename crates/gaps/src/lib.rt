@@ -49,6 +49,13 @@ pub fn has_never(gaps: &[u32]) -> bool
     false
 }
 
+// A number of a record's array as a time.
+fn in_seconds(number: u32) -> Seconds
+    ensures { λ r. ⌜ r .0 ≡ number ⌝ }
+{
+    Seconds(number as u64)
+}
+
 // The gap from a row to a kind. A kind of 0, or past N, gets the gap that stands where its own would.
 pub fn gap_after(gaps: &[u32], row: usize, kind: usize) -> Gap
     requires { ⌜ gapIndex row kind < length (now gaps) ⌝ }
@@ -59,7 +66,7 @@ pub fn gap_after(gaps: &[u32], row: usize, kind: usize) -> Gap
     if number == NEVER {
         return Gap::Never;
     }
-    Gap::Lasting(Seconds(number as u64))
+    Gap::Lasting(in_seconds(number))
 }
 
 // The same where it is known not to be never: nothing is compared.
@@ -68,5 +75,5 @@ pub fn seconds_after(gaps: &[u32], row: usize, kind: usize) -> Seconds
     ensures { λ r. ⌜ gapBetween (now (gaps .entry)) row kind ≡ Lasting r ⌝ }
 {
     let at = gap_index(row, kind);
-    Seconds(gaps[at] as u64)
+    in_seconds(gaps[at])
 }

@@ -29,14 +29,14 @@ pub struct Layout {
     // The jobs kind by kind, each kind by hand-in, then 0; and where each kind begins.
     pub jobs: [u8; 60],
     pub begins: [u32; 5],
+    // Whether any gap is never.
+    pub forbids: bool,
     // The first and the last place permitted to a kind's job just cut, a slot for each number left of the kind; and where each kind's slots begin.
     pub earliest: [u8; 65],
     pub latest: [u8; 65],
     pub slots: [usize; 5],
     // What one job of each kind counts for in an entry number.
     pub strides: [usize; 5],
-    // Whether any gap is never.
-    pub forbids: bool,
 }
 
 // Lists the jobs of a kind by hand-in, from `from` on; returns the position behind them.
@@ -222,11 +222,11 @@ pub fn prepare(queue: Queue) -> Layout
         counts,
         jobs,
         begins,
+        forbids,
         earliest,
         latest,
         slots,
         strides,
-        forbids,
     }
 }
 
