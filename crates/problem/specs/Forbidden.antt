@@ -13,9 +13,13 @@ use Rattle.problem.specs.Cases.{queueOf, three, Exactly, plan, kept, pla
 abbrev pub X : ℕ
 X = 65536
 
+-- A but for its goal, shift, start, gap rows, pupils and the kinds of its jobs
+abbrev pub rowsOf : (goal shift start : ℕ) (rows : List (List ℕ)) (weights kinds : List ℕ) → Queue
+rowsOf goal m s rows weights kinds = queueOf 2 goal m s rows weights ((1, 60) ∷ (1, 60) ∷ []) kinds
+
 -- A but for its goal, start, gap rows and pupils
 abbrev pub withRows : (goal start : ℕ) (rows : List (List ℕ)) (weights : List ℕ) → Queue
-withRows goal s rows weights = queueOf 2 goal 1 s rows weights ((1, 60) ∷ (1, 60) ∷ []) (1 ∷ 2 ∷ 1 ∷ [])
+withRows goal s rows weights = rowsOf goal 1 s rows weights (1 ∷ 2 ∷ 1 ∷ [])
 
 -- no 1 after 2
 abbrev pub after-2 : Queue

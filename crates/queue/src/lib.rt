@@ -14,7 +14,7 @@ pub struct Queue {
     pub max_shift: u32,
     // 0 for a cold cutter, else the kind cut last.
     pub start: u32,
-    // gap(i, j) stands where `gaps` says.
+    // gap(i, j) stands where `gaps` says: seconds, or 65536 for never.
     pub gaps: [u32; 30],
     // Pupils waiting for one job of each kind.
     pub weights: [u32; 5],

@@ -8,7 +8,7 @@ use Rattle.queue.specs.declared.Queue.{Queue}
 use Rattle.sequencing.specs.Recursion.{planCost}
 use Rattle.problem.specs.OfQueue.{problem}
 use Rattle.problem.specs.Cases.{queueOf, likeA, A, H}
-use Rattle.problem.specs.Forbidden.{X}
+use Rattle.problem.specs.Forbidden.{X, rowsOf}
 use Rattle.splitting.specs.Splits.{splitCost}
 use Rattle.splitting.specs.Taken.{countsCost, takenCost, takenCounts, firstOrder, secondOrder}
 use Rattle.splitting.specs.Covers.{covers}
@@ -31,7 +31,7 @@ lastPlace₂ b = queueOf 2 1 2 0 [] (3 ∷ 1 ∷ []) ((1, 60) ∷ (1, b) ∷ [])
 
 -- A with every place permitted, but for its goal, start, gap rows, pupils and the kinds of its jobs
 abbrev pub freeRows : (goal start : ℕ) (rows : List (List ℕ)) (weights kinds : List ℕ) → Queue
-freeRows goal s rows weights kinds = queueOf 2 goal 4 s rows weights ((1, 60) ∷ (1, 60) ∷ []) kinds
+freeRows goal s rows weights kinds = rowsOf goal 4 s rows weights kinds
 
 -- no job may follow another, so that a cold cutter can have one job and a warm one none
 abbrev pub apart : (start : ℕ) (kinds : List ℕ) → Queue
