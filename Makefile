@@ -86,9 +86,11 @@ target/c/answer: tools/answer.c $(ARCHIVE) $(HEADERS)
 	@mkdir -p target/c
 	$(CC) $(CFLAGS) -Iinclude $< $(ARCHIVE) -o $@
 
-target/c/bench: bench/bench.c $(ARCHIVE) $(HEADERS)
+# BEFORE=FILE measures an earlier archive beside this one, in turn with it.
+target/c/bench: bench/bench.c $(ARCHIVE) $(BEFORE) $(HEADERS)
 	@mkdir -p target/c
-	$(CC) $(CFLAGS) -O3 -pthread -Iinclude $< $(ARCHIVE) -o $@
+	$(if $(BEFORE),objcopy $(foreach entry,plan split check_queue check_plan version,--redefine-sym kippertarn_$(entry)=before_$(entry)) $(BEFORE) target/c/before.a)
+	$(CC) $(CFLAGS) -O3 -pthread -Iinclude $(if $(BEFORE),-DBEFORE) $< $(ARCHIVE) $(if $(BEFORE),target/c/before.a) -o $@
 
 # the program plan_queue, proved and compiled
 target/bin/plan_queue: archive
@@ -133,7 +135,7 @@ valgrind: $(PROGRAMS) ## the same with fewer rounds, each load and store watched
 		valgrind -q --error-exitcode=1 target/c/$$test; done
 
 # Time and stack of planning and splitting, beside both written by hand in C.
-bench: target/c/bench ## time and stack, beside planning and splitting written by hand in C
+bench: target/c/bench ## time and stack, beside planning and splitting written by hand in C; BEFORE=FILE is an earlier archive
 	target/c/bench
 
 clean: ## removes all that was built

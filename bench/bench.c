@@ -1,5 +1,6 @@
 /* Time and stack of planning and splitting, beside both written by hand in C and compiled at -O3: same messages, same
- * tables, same answers. */
+ * tables, same answers. With BEFORE defined an earlier archive is measured too, its entries renamed to before_plan and
+ * before_split. */
 #define _DEFAULT_SOURCE /* for clock_gettime and threads with a stack of their own */
 
 #include "kippertarn.h"
@@ -15,9 +16,20 @@ struct planner {
     uint64_t (*split)(const uint8_t *, uint64_t, uint32_t, uint64_t *, uint64_t, uint8_t *, uint64_t);
 };
 
-/* volatile: both are called in the same way, and neither is melted into a loop */
-static const volatile struct planner part = { kippertarn_plan, kippertarn_split },
-                                     by_hand = { plain_plan, plain_split };
+#ifdef BEFORE
+uint64_t before_plan(const uint8_t *, uint64_t, uint64_t *, uint64_t, uint8_t *, uint64_t);
+uint64_t before_split(const uint8_t *, uint64_t, uint32_t, uint64_t *, uint64_t, uint8_t *, uint64_t);
+#endif
+
+/* volatile: all are called in the same way, and none is melted into a loop */
+static const volatile struct planner planners[] = {
+    { kippertarn_plan, kippertarn_split },
+    { plain_plan, plain_split },
+#ifdef BEFORE
+    { before_plan, before_split },
+#endif
+};
+enum { PART, BY_HAND, EARLIER, PLANNERS = sizeof planners / sizeof *planners };
 
 /* A plan; a split over cutters that cut kinds 2 and 1 last; a split over two cold cutters. */
 enum call { PLAN, SPLIT, COLD_SPLIT };
@@ -31,7 +43,7 @@ struct work {
     uint64_t *table;
 };
 
-enum { PASSES = 6, ROUNDS = 5 }; /* passes over all sizes, so that a busy moment spoils no line */
+enum { PASSES = 6, ROUNDS = 6 }; /* passes over all sizes, so that a busy moment spoils no line */
 
 /* Processor time in milliseconds, so that other work on the machine counts less. */
 static double now(void)
@@ -92,17 +104,18 @@ static void make_queue(struct work *w, enum call call, const struct size *size, 
     w->second_start = call == COLD_SPLIT ? 0 : 1;
     w->length = kippertarn_write_queue_record(&q, w->message, sizeof w->message);
     w->entries = 0;
-    w->entries = (size_t)KIPPERTARN_V(answer(&part, w, NULL, w->plan));
+    w->entries = (size_t)KIPPERTARN_V(answer(&planners[PART], w, NULL, w->plan));
 }
 
-/* Both planners leave the same answer, plan and table. */
+/* All planners leave the same answer, plan and table. */
 static int same_answers(struct work *w)
 {
     uint64_t *other = malloc(w->entries * sizeof *other);
     uint8_t plan[KIPPERTARN_PLAN_BYTES];
-    uint64_t got = answer(&part, w, w->table, w->plan);
-    int same = other && KIPPERTARN_R(got) == KIPPERTARN_DONE && answer(&by_hand, w, other, plan) == got
-               && memcmp(other, w->table, w->entries * sizeof *other) == 0
+    uint64_t got = answer(&planners[PART], w, w->table, w->plan);
+    int same = other && KIPPERTARN_R(got) == KIPPERTARN_DONE;
+    for (int i = 1; same && i < PLANNERS; i++)
+        same = answer(&planners[i], w, other, plan) == got && memcmp(other, w->table, w->entries * sizeof *other) == 0
                && memcmp(plan, w->plan, (size_t)KIPPERTARN_V(got)) == 0;
     free(other);
     return same;
@@ -115,10 +128,10 @@ struct row {
     unsigned goal, shift;
     int nevers;
     size_t entries;
-    double part, by_hand; /* best milliseconds so far */
+    double best[PLANNERS]; /* milliseconds */
 };
 
-/* Times both in turn, and keeps the best of each. */
+/* Times all in turn, each of them first as often, and keeps the best of each. */
 static void measure(struct work *w, struct row *r)
 {
     make_queue(w, r->call, r->size, r->goal, r->shift, r->nevers);
@@ -130,20 +143,27 @@ static void measure(struct work *w, struct row *r)
     r->entries = w->entries;
     for (int round = 0; round < ROUNDS; round++) {
         unsigned times = (unsigned)(200000 / w->entries) + 1;
-        double a = time_calls(&part, w, times), b = time_calls(&by_hand, w, times);
-        r->part = r->part == 0 || a < r->part ? a : r->part;
-        r->by_hand = r->by_hand == 0 || b < r->by_hand ? b : r->by_hand;
+        for (int i = 0; i < PLANNERS; i++) {
+            int which = (i + round) % PLANNERS;
+            double t = time_calls(&planners[which], w, times);
+            r->best[which] = r->best[which] == 0 || t < r->best[which] ? t : r->best[which];
+        }
     }
 }
 
 static void print_rows(const char *what, const struct row *r, int count)
 {
-    printf("%s\n%9s %5s %4s %5s %11s %9s %11s %9s %7s\n", what, "entries", "kinds", "goal", "shift", "part ms",
-           "ns/entry", "by hand ms", "ns/entry", "ratio");
+    printf("%s\n%9s %5s %4s %5s %11s %9s %11s %9s %7s%s\n", what, "entries", "kinds", "goal", "shift", "part ms",
+           "ns/entry", "by hand ms", "ns/entry", "ratio", PLANNERS > EARLIER ? "   before   ratio" : "");
     for (; count > 0; count--, r++) {
         double per_entry = 1e6 / (double)r->entries;
-        printf("%9zu %5u %4u %5u %11.4f %9.2f %11.4f %9.2f %7.2f\n", r->entries, r->size->kinds, r->goal, r->shift,
-               r->part, r->part * per_entry, r->by_hand, r->by_hand * per_entry, r->part / r->by_hand);
+        printf("%9zu %5u %4u %5u %11.4f %9.2f %11.4f %9.2f %7.2f", r->entries, r->size->kinds, r->goal, r->shift,
+               r->best[PART], r->best[PART] * per_entry, r->best[BY_HAND], r->best[BY_HAND] * per_entry,
+               r->best[PART] / r->best[BY_HAND]);
+#ifdef BEFORE
+        printf(" %8.4f %7.3f", r->best[EARLIER], r->best[PART] / r->best[EARLIER]);
+#endif
+        printf("\n");
     }
 }
 
@@ -152,7 +172,7 @@ static void print_growth(const struct row *r, int count)
     printf("Growth under goal 2, from each size to the next:");
     for (int i = 1; i < count; i++) {
         double work = (double)(r[i].entries * r[i].size->kinds) / (double)(r[i - 1].entries * r[i - 1].size->kinds);
-        printf(" entries x kinds by %.1f, time by %.1f%s", work, r[i].part / r[i - 1].part,
+        printf(" entries x kinds by %.1f, time by %.1f%s", work, r[i].best[PART] / r[i - 1].best[PART],
                i + 1 < count ? ";" : "\n");
     }
 }
@@ -215,51 +235,51 @@ static const struct size sizes[] = {
     { 5, { 7, 6, 6, 6, 6 } },
     { 5, { 12, 12, 12, 12, 12 } },
 };
-enum {
-    SIZES = sizeof sizes / sizeof *sizes,
-    PLANS = 2 * SIZES + 2,
-    SPLITS = 2 * SIZES,
-    COLD_SPLITS = 2 * SIZES,
-    NEVER_PLANS = 2 * SIZES,
-    NEVER_SPLITS = 2 * SIZES,
-    ROWS = PLANS + SPLITS + COLD_SPLITS + NEVER_PLANS + NEVER_SPLITS
-};
+enum { SIZES = sizeof sizes / sizeof *sizes, GROUP = 2 * SIZES };
 
-static struct row row_of(enum call call, const struct size *size, unsigned goal, int nevers)
-{
-    return (struct row){ .call = call, .size = size, .goal = goal, .shift = 60, .nevers = nevers };
-}
+/* Groups of lines, each over all sizes and both goals. A small shift leaves few orders, and a split with one is 19. */
+static const struct group {
+    const char *what;
+    enum call call;
+    unsigned shift;
+    int nevers;
+} groups[] = {
+    { "Planning", PLAN, 60, 0 },
+    { "Planning, shift 6", PLAN, 6, 0 },
+    { "Planning, shift 3", PLAN, 3, 0 },
+    { "Splitting over two cutters", SPLIT, 60, 0 },
+    { "Splitting over two cold cutters", COLD_SPLIT, 60, 0 },
+    { "Planning with forbidden successions", PLAN, 60, 1 },
+    { "Planning with forbidden successions, shift 6", PLAN, 6, 1 },
+    { "Planning with forbidden successions, shift 3", PLAN, 3, 1 },
+    { "Splitting with forbidden successions", SPLIT, 60, 1 },
+    { "Splitting over two cold cutters with forbidden successions", COLD_SPLIT, 60, 1 },
+};
+enum { GROUPS = sizeof groups / sizeof *groups };
 
 int main(void)
 {
     static struct work w;
-    static struct row rows[ROWS];
-    for (int i = 0; i < 2 * SIZES; i++) {
-        const struct size *size = &sizes[i % SIZES];
-        unsigned goal = i < SIZES ? 1 : 2;
-        rows[i] = row_of(PLAN, size, goal, 0);
-        rows[PLANS + i] = row_of(SPLIT, size, goal, 0);
-        rows[PLANS + SPLITS + i] = row_of(COLD_SPLIT, size, goal, 0);
-        rows[PLANS + SPLITS + COLD_SPLITS + i] = row_of(PLAN, size, goal, 1);
-        rows[PLANS + SPLITS + COLD_SPLITS + NEVER_PLANS + i] = row_of(SPLIT, size, goal, 1);
-    }
-    /* a split has no tight shift: it would be 19 */
-    rows[PLANS - 2] = (struct row){ .call = PLAN, .size = &sizes[0], .goal = 2, .shift = 5 };
-    rows[PLANS - 1] = (struct row){ .call = PLAN, .size = &sizes[SIZES - 1], .goal = 2, .shift = 6 };
+    static struct row rows[GROUPS][GROUP];
+    for (int g = 0; g < GROUPS; g++)
+        for (int i = 0; i < GROUP; i++)
+            rows[g][i] = (struct row){ .call = groups[g].call,
+                                       .size = &sizes[i % SIZES],
+                                       .goal = i < SIZES ? 1 : 2,
+                                       .shift = groups[g].shift,
+                                       .nevers = groups[g].nevers };
     w.table = malloc(KIPPERTARN_ENTRIES_MOST * sizeof *w.table);
     if (!w.table)
         return 1;
     for (int pass = 0; pass < PASSES; pass++)
-        for (int i = 0; i < ROWS; i++)
-            measure(&w, &rows[i]);
+        for (int i = 0; i < GROUPS * GROUP; i++)
+            measure(&w, &rows[i / GROUP][i % GROUP]);
     printf("Processor time, best of %d in turn; the table is not cleared between calls.\n", PASSES * ROUNDS);
-    print_rows("Planning", rows, PLANS);
-    print_growth(rows + SIZES, SIZES);
-    print_rows("Splitting over two cutters", rows + PLANS, SPLITS);
-    print_growth(rows + PLANS + SIZES, SIZES);
-    print_rows("Splitting over two cold cutters", rows + PLANS + SPLITS, COLD_SPLITS);
-    print_rows("Planning with forbidden successions", rows + PLANS + SPLITS + COLD_SPLITS, NEVER_PLANS);
-    print_rows("Splitting with forbidden successions", rows + PLANS + SPLITS + COLD_SPLITS + NEVER_PLANS, NEVER_SPLITS);
+    for (int g = 0; g < GROUPS; g++) {
+        print_rows(groups[g].what, rows[g], GROUP);
+        if (groups[g].shift == 60 && !groups[g].nevers && groups[g].call != COLD_SPLIT)
+            print_growth(rows[g] + SIZES, SIZES);
+    }
     make_queue(&w, COLD_SPLIT, &sizes[SIZES - 1], 2, 60, 0);
     printf("Bytes of stack: check_queue %zu, check_plan %zu, plan %zu, split %zu\n", stack_used(&w, 0),
            stack_used(&w, 1), stack_used(&w, 2), stack_used(&w, 3));

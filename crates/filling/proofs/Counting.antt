@@ -2,7 +2,7 @@
 -- Assumes nothing.
 use Prim.Native.Nat.{ℕ, zero, suc, _-_, _^_, _≤_, _<_}
 use mathlib.Core.List.{List}
-use mathlib.Core.Path.{_≡_, refl, sym, _∙_}
+use mathlib.Core.Path.{_≡_, refl, sym, ap, _∙_}
 use native.Mathlib.Nat.{mul-le-mul}
 use native.Mathlib.Omega.{arith}
 use lib.ListN.{length, getD, take, drop, replicate}
@@ -17,10 +17,11 @@ use Rattle.sequencing.proofs.Bounds.{weigh-le}
 use Rattle.sequencing.proofs.Entries.{left-digits}
 use Rattle.sequencing.proofs.Vectors.{weigh-none}
 use Rattle.problem.specs.OfQueue.{problem}
-use Rattle.problem.proofs.Rule.{few-jobs}
+use Rattle.problem.proofs.Rule.{jobs-is, few-jobs}
 use Rattle.problem.proofs.Sizes.{entries-small}
 use Rattle.jobs_left.specs.declared.JobsLeft.{JobsLeft}
 use Rattle.jobs_left.specs.Steps.{next, Summed, LeftAt}
+use Rattle.jobs_left.proofs.Stepping.{next-digits}
 use Rattle.jobs_left.proofs.LeftAt.{take-zeros, left-none, left-step}
 use Rattle.layout.specs.declared.Layout.{Layout}
 use Rattle.layout.specs.Prepared.{Prepared}
@@ -57,7 +58,7 @@ module _ {q : Queue} (v : Valid q) where
       entries-more : block (problem q) ≤ entries (problem q)
       entries-more = omega (arith, mul-le-mul {n₁ = 1} {m₁ = block (problem q)} {n₂ = q .kinds} {m₂ = block (problem q)} (v .kinds .0) (omega arith))
 
-      sums-fit : (k .jobs < 2 ^ 31) × ((k .weight < 2 ^ 63) × (k .index < 2 ^ 63))
+      sums-fit : (k .jobs < 2 ^ 31) × ((k .weight < 2 ^ 31) × (k .index < 2 ^ 63))
       sums-fit =
           let n = take (q .kinds) left in
           let here = digits (allLeft (problem q)) (k .index) in
@@ -69,7 +70,7 @@ module _ {q : Queue} (v : Valid q) where
       -- what stepping on may rely on
       pub may-step : length (q .weights) ≡ 5
           → (l .size .kinds ≤ 5) × ((length left ≡ 5) × ((length (l .counts) ≡ 5) × ((length (q .weights) ≡ 5)
-          × (Summed (q .weights) (take (l .size .kinds) left) (k .jobs) (k .weight) × ((k .jobs < 2 ^ 31) × ((k .weight < 2 ^ 63) × (k .index < 2 ^ 63)))))))
+          × (Summed (q .weights) (take (l .size .kinds) left) (k .jobs) (k .weight) × ((k .jobs < 2 ^ 31) × ((k .weight < 2 ^ 31) × (k .index < 2 ^ 63)))))))
       may-step long = rw (p .kinds-are) (v .kinds .1, (left-here .long, (counts-long v p, (long, (w .summed, sums-fit)))))
 
       -- one index on
@@ -83,6 +84,14 @@ module _ {q : Queue} (v : Valid q) where
             left-at = λ b. left-step left-here b (same ∙ left-here .long) step (rw (p .kinds-are) at rest);
             summed = rw (p .kinds-are) at summed;
           }
+
+      -- no more jobs are left than there are, there too
+      pub few-stepped : (left′ : List ℕ) {jobs′ weight′ : ℕ} → take (l .size .kinds) left′ ≡ next (take (l .size .kinds) (l .counts)) (take (l .size .kinds) left)
+          → Summed (q .weights) (take (l .size .kinds) left′) jobs′ weight′ → jobs′ ≤ l .size .jobs
+      few-stepped left′ stepped summed =
+          let step : take (l .size .kinds) left′ ≡ digits (allLeft (problem q)) (suc (k .index)) =
+          stepped ∙ rw (p .kinds-are, counts-take v p, left-here .here) (next-digits (allLeft (problem q)) (k .index)) in
+          omega (arith, summed .jobs-are, ap sum step, left-small (problem q) _ (left-digits (problem q) (suc (k .index))), jobs-is q, p .jobs-are)
 
     -- at its end all were passed
     pub counting-done : l .size .block ≤ k .index → k .index ≡ block (problem q)

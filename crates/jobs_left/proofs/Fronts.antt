@@ -63,7 +63,7 @@ module _ {weights left : List ℕ} {kinds total j : ℕ} (w : Weighing weights l
   one-small : getD left j 0 * getD weights j 0 ≤ 60000
   one-small = mul-le-mul {n₂ = 60} {m₂ = 1000} (small .0 j h) (small .1 j h)
 
-  pub one-fits : getD left j 0 * getD weights j 0 < 2 ^ 64
+  pub one-fits : getD left j 0 * getD weights j 0 < 2 ^ 32
   one-fits = omega (arith, one-small)
 
   pub weighing-fits : kinds ≤ 5 → total + getD left j 0 * getD weights j 0 < 2 ^ 64

@@ -22,7 +22,7 @@ pub fn weight_left(left: &[u32], weights: &[u32], kinds: usize) -> u64
     let mut total: u64 = 0;
     let mut j: usize = 0;
     while j < kinds {
-        total = total + left[j] as u64 * weights[j] as u64;
+        total = total + (left[j] * weights[j]) as u64;
         j = j + 1;
     }
     total
@@ -46,7 +46,7 @@ pub fn step_left(
     kinds: usize,
     k: JobsLeft,
 ) -> JobsLeft
-    requires { ⌜ (kinds ≤ 5) × ((length (now left) ≡ 5) × ((length (now counts) ≡ 5) × ((length (now weights) ≡ 5) × (Summed (now weights) (take kinds (now left)) (k .jobs) (k .weight) × ((k .jobs < 2 ^ 31) × ((k .weight < 2 ^ 63) × (k .index < 2 ^ 63))))))) ⌝ }
+    requires { ⌜ (kinds ≤ 5) × ((length (now left) ≡ 5) × ((length (now counts) ≡ 5) × ((length (now weights) ≡ 5) × (Summed (now weights) (take kinds (now left)) (k .jobs) (k .weight) × ((k .jobs < 2 ^ 31) × ((k .weight < 2 ^ 31) × (k .index < 2 ^ 63))))))) ⌝ }
     ensures { λ _. ⌜ take kinds (now (left .exit)) ≡ next (take kinds (now (counts .entry))) (take kinds (now (left .entry))) ⌝ }
     ensures { λ _. ⌜ drop kinds (now (left .exit)) ≡ drop kinds (now (left .entry)) ⌝ }
     ensures { λ r. ⌜ Summed (now (weights .entry)) (take kinds (now (left .exit))) (r .jobs) (r .weight) ⌝ }
@@ -58,17 +58,17 @@ pub fn step_left(
     let mut j: usize = 0;
     while j < kinds {
         let n = left[j];
-        let w = weights[j] as u64;
+        let w = weights[j];
         if n < counts[j] {
             left[j] = n + 1;
             return JobsLeft {
                 index,
                 jobs: jobs + 1,
-                weight: weight + w,
+                weight: weight + w as u64,
             };
         }
         jobs = jobs - n;
-        weight = weight - n as u64 * w;
+        weight = weight - (n * w) as u64;
         left[j] = 0;
         j = j + 1;
     }

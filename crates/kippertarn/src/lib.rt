@@ -104,5 +104,5 @@ pub extern "C" fn kippertarn_split(
 pub extern "C" fn kippertarn_version() -> u64
     ensures { λ r. ⌜ r ≡ version ⌝ }
 {
-    1004000
+    1004001
 }

@@ -93,6 +93,18 @@ pub slotting-none : {counts begins jobs first last : List ℕ} {shift kinds : �
     → Slotting counts begins jobs first last shift kinds slots₀ earliest₀ latest₀ slots₀ earliest₀ latest₀ 0
 slotting-none = record { slotting = storing-none; firsts = laying-none; lasts = laying-none }
 
+-- the job just cut has its kind
+pub kind-cut : (q : Queue) (L n : ℕ) → 1 ≤ L → n < K (problem q) L → kind q (jobCut (problem q) L n) ≡ L
+unfolding jobsOf
+kind-cut q L n h few =
+    let P : Problem = problem q in
+    let r : ℕ = K P L - 1 - n in
+    let i : ℕ = getD (jobsOf P L) r 0 in
+    let e : K P L - n ≡ suc r = omega arith in
+    let k : kindIn P i ≡ L = sym (eqb→eq L (kindIn P i) (getD-filter (λ i. eqb L (kindIn P i)) (upto (T P)) r (omega arith))) in
+    let s = at-in (P .jobs) i (omega arith) in
+    rw e (sym (kind-is q i (s .0) (s .1)) ∙ k)
+
 -- what is known of the next kind's jobs
 pub record NextKind (counts begins jobs : List ℕ) (k : ℕ) : Type 0 where
   pub in-five : k < 5
@@ -115,17 +127,6 @@ module _ {q : Queue} (v : Valid q) {counts begins jobs : List ℕ} (listed : Lis
         let e : suc (K P L - 1 - n) ≡ K P L - n = omega arith in
         rw (listed .by-kind, begin-is L h u, count-is L h) (by-kind-at q v L (K P L - 1 - n) h u (omega arith) ∙ ap (at (jobsOf P L)) e)
 
-    -- that job has its kind
-    kind-cut : kind q (jobCut P L n) ≡ L
-    unfolding jobsOf
-    kind-cut =
-        let r : ℕ = K P L - 1 - n in
-        let i : ℕ = getD (jobsOf P L) r 0 in
-        let e : K P L - n ≡ suc r = omega arith in
-        let k : kindIn P i ≡ L = sym (eqb→eq L (kindIn P i) (getD-filter (λ i. eqb L (kindIn P i)) (upto (T P)) r (omega arith))) in
-        let s = at-in (P .jobs) i (omega arith) in
-        rw e (sym (kind-is q i (s .0) (s .1)) ∙ k)
-
   -- the slots of a kind are the queue's
   slots-are : (g : ℕ → ℕ → ℕ) (xs : List ℕ) (d L : ℕ) → 1 ≤ L → L ≤ q .kinds
       → tabulate (λ n. cond (ltb n (at counts L)) (g (at xs L) (cutOf jobs (at begins L) (at counts L) n)) d) 0 (at counts L + 1)
@@ -135,7 +136,7 @@ module _ {q : Queue} (v : Valid q) {counts begins jobs : List ℕ} (listed : Lis
       ∙ tabulate-ext (λ n. cond (ltb n (K P L)) (g (at xs L) (cutOf jobs (at begins L) (at counts L) n)) d)
       (λ n. cond (ltb n (K P L)) (g (getD xs (kind q (jobCut P L n) - 1) 0) (jobCut P L n)) d) 0 (K P L + 1)
       (λ n l m. elim (below-or-not n (K P L)) [
-        | inl few ↦ rw (lt-ltb n (K P L) few, cut-is L n h u few, kind-cut L n h u few, at-getD xs L h)
+        | inl few ↦ rw (lt-ltb n (K P L) few, cut-is L n h u few, kind-cut q L n h few, at-getD xs L h)
         | inr all ↦ rw (le-ltb n (K P L) all)
       ])
 

@@ -95,7 +95,7 @@ module _ (q : Queue) (v : Valid q) where
       getD-filled 60 (byKind P) all-by-kind (beginOf P L + n) ∙ flat-at (jobsOf P) 1 (q .kinds) (L - 1) n (omega arith) (rw e few) ∙ rw e
 
   module _ (f : ℕ → ℕ → ℕ) where
-    by-slot-long : length (bySlot P f) ≡ sum (allLeft P) + q .kinds
+    pub by-slot-long : length (bySlot P f) ≡ sum (allLeft P) + q .kinds
     unfolding bySlot allLeft
     by-slot-long = flat-long (λ L. tabulate (f L) 0 (K P L + 1)) 1 (q .kinds) ∙ sum-slots f (K P) 1 (q .kinds)
 

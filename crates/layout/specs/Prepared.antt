@@ -1,5 +1,5 @@
 -- What is prepared once a call.
-use Prim.Native.Nat.{ℕ, _+_, _-_}
+use Prim.Native.Nat.{ℕ, _+_, _-_, _*_}
 use mathlib.Core.Bool.{cond}
 use mathlib.Core.List.{List, map, flatMap}
 use mathlib.Core.Path.{_≡_}
@@ -59,4 +59,5 @@ module _ (q : Queue) where
     pub latest-are : l .latest ≡ filled 65 (bySlot (problem q) latestAt)
     pub slots-are : l .slots ≡ filled 5 (map (slotOf (problem q)) (upto (q .kinds)))
     pub strides-are : l .strides ≡ filled 5 (map (stride (allLeft (problem q))) (upto (q .kinds)))
+    pub blocks-are : l .blocks ≡ filled 5 (map (λ x. (x - 1) * block (problem q)) (upto (q .kinds)))
     pub forbids-is : l .forbids ≡ hasNever (q .gaps)

@@ -12,6 +12,7 @@ ghost use Rattle.sequencing.specs.States.{allLeft};
 ghost use Rattle.sequencing.specs.Entries.{size, stride};
 ghost use Rattle.problem.specs.OfQueue.{problem};
 ghost use Rattle.layout.specs.Steps.{ofKind, Listed, earliestOf, latestOf};
+ghost use Rattle.layout.specs.PlaceSets.{placesFrom, setAt};
 ghost use Rattle.layout.specs.Prepared.{byKind, beginOf, bySlot, slotOf, earliestAt, latestAt, Prepared};
 
 // 01's N, T and P.
@@ -35,8 +36,9 @@ pub struct Layout {
     pub earliest: [u8; 65],
     pub latest: [u8; 65],
     pub slots: [usize; 5],
-    // What one job of each kind counts for in an entry number.
+    // 02's weights and blocks: what one job of each kind counts for in an entry number, and where each kind's entries begin.
     pub strides: [usize; 5],
+    pub blocks: [usize; 5],
 }
 
 // Lists the jobs of a kind by hand-in, from `from` on; returns the position behind them.
@@ -187,6 +189,20 @@ fn set_strides(counts: [u32; 5], kinds: usize, strides: &mut [usize]) -> usize
     product
 }
 
+// Where each kind's entries begin: P further for each kind.
+fn set_blocks(block: usize, kinds: usize, blocks: &mut [usize])
+    requires { ⌜ (kinds ≤ 5) × ((length (now blocks) ≡ 5) × (kinds * block < 2 ^ 64)) ⌝ }
+    ensures { λ _. ⌜ now (blocks .exit) ≡ sets (now (blocks .entry)) 0 (map (λ x. (x - 1) * block) (upto kinds)) ⌝ }
+{
+    let mut at: usize = 0;
+    let mut j: usize = 0;
+    while j < kinds {
+        blocks[j] = at;
+        at = at + block;
+        j = j + 1;
+    }
+}
+
 // Prepares a queue.
 pub fn prepare(queue: Queue) -> Layout
     requires { ⌜ Valid queue ⌝ }
@@ -200,6 +216,7 @@ pub fn prepare(queue: Queue) -> Layout
     let mut latest = [0u8; 65];
     let mut slots = [0usize; 5];
     let mut strides = [0usize; 5];
+    let mut blocks = [0usize; 5];
     list_jobs(queue, &mut counts, &mut jobs, &mut begins);
     set_places(
         queue,
@@ -211,6 +228,7 @@ pub fn prepare(queue: Queue) -> Layout
         &mut latest,
     );
     let block = set_strides(counts, kinds, &mut strides);
+    set_blocks(block, kinds, &mut blocks);
     let gaps = queue.gaps;
     let forbids = gaps::has_never(&gaps);
     Layout {
@@ -227,6 +245,44 @@ pub fn prepare(queue: Queue) -> Layout
         latest,
         slots,
         strides,
+        blocks,
+    }
+}
+
+// A place as a set by itself: bit p. No half shifts further than its 32 bits, which a small processor does in one step.
+pub fn place_bit(place: u32) -> u64
+    requires { ⌜ place < 64 ⌝ }
+    ensures { λ r. ⌜ r ≡ 2 ^ place ⌝ }
+{
+    if place < 32 {
+        return (1u32 << place) as u64;
+    }
+    (1u32 << (place - 32)) as u64 * 4294967296
+}
+
+// The places from a first to a last one as a set; none where the last comes before the first, or is past 60.
+fn place_range(first: u8, last: u8) -> u64
+    ensures { λ r. ⌜ r ≡ placesFrom first last ⌝ }
+{
+    if last < first {
+        return 0;
+    }
+    if 60 < last {
+        return 0;
+    }
+    place_bit(last as u32 + 1) - place_bit(first as u32)
+}
+
+// The places permitted to each kind's job just cut, as sets, in the T + N slots that are used; the others are left alone.
+pub fn place_sets<'a>(earliest: &'a [u8], latest: &'a [u8], size: Size, places: &mut [u64])
+    requires { ⌜ (size .jobs + size .kinds ≤ 65) × ((length (now earliest) ≡ 65) × ((length (now latest) ≡ 65) × (length (now places) ≡ 65))) ⌝ }
+    ensures { λ _. ⌜ ((i : ℕ) → getD (now (places .exit)) i 0 ≡ setAt (now (earliest .entry)) (now (latest .entry)) (size .jobs + size .kinds) (now (places .entry)) i) ⌝ }
+{
+    let used = size.jobs as usize + size.kinds;
+    let mut i: usize = 0;
+    while i < used {
+        places[i] = place_range(earliest[i], latest[i]);
+        i = i + 1;
     }
 }
 

@@ -1,43 +1,45 @@
--- What each kind as the next comes to, and that what is read for it lies in the arrays.
+-- What each kind as the next comes to, and what is read for it; and where no next state has a value.
 -- Assumes nothing.
-use Prim.Native.Nat.{ℕ, zero, suc, _+_, _-_, _*_, _^_, _≤_, _<_}
-use mathlib.Core.Bool.{Bool, true, false}
-use mathlib.Core.List.{List}
-use mathlib.Core.Logic.{_≢_}
-use mathlib.Core.Option.{Option, none, some}
+use Prim.Native.Nat.{ℕ, zero, suc, _+_, _-_, _^_, _≤_, _<_}
+use mathlib.Core.Bool.{Bool, true, false, false≢true, _&&_}
+use mathlib.Core.List.{List, [], _∷_}
+use mathlib.Core.Logic.{inl, inr, _≢_}
+use mathlib.Core.Option.{Option, none}
 use mathlib.Core.Path.{_≡_, refl, sym, ap, _∙_}
-use native.Mathlib.Nat.{lt-of-lt-of-le}
 use native.Mathlib.Numerals.{add-one}
 use native.Mathlib.Omega.{arith}
-use lib.Arith.{digits-lt}
-use lib.Dec.{ltb}
-use lib.ListN.{length, getD, set, length-set}
-use lib.Seq.{getD-set-same, getD-set-other, ext-getD}
+use lib.Dec.{ltb, eqb}
+use lib.ListN.{length, getD, set, drop, length-set, drop-of-length-le}
+use lib.Seq.{drop-cons, getD-set-same, getD-set-other, ext-getD}
 use borrow.Author.Count.{below-more}
-use Rattle.gaps.specs.declared.Gap.{Gap}
-use Rattle.gaps.specs.declared.Gap.the-variants.{Lasting, Never}
+use borrow.Author.Tests.{ne-eqb}
+use Rattle.gaps.specs.declared.Gap.the-variants.{Never}
 use Rattle.gaps.specs.Gaps.{gapIndex, gapAt, gapBetween, hasNever}
-use Rattle.gaps.proofs.Gaps.{not-never, never-is}
+use Rattle.gaps.proofs.Gaps.{never-is}
 use Rattle.gaps.proofs.Nevers.{none-never}
+use Rattle.number.proofs.Steps.{bool-cases}
 use Rattle.sequencing.specs.Lists.{at}
-use Rattle.sequencing.specs.Least.{only, plusGap}
-use Rattle.sequencing.specs.Entries.{stored}
-use Rattle.next_states.specs.NextStates.{loaded, nextValue, perKind, nextValues, behind, openValues, candidate, Loadable, Ready, Open}
-use Rattle.next_states.proofs.Stored.{Fits, fits, stored-loaded}
+use Rattle.sequencing.specs.Problem.{Problem}
+use Rattle.sequencing.specs.States.{complete}
+use Rattle.sequencing.specs.Least.{only, plusGap, least}
+use Rattle.sequencing.specs.Entries.{stored, number}
+use Rattle.sequencing.proofs.Options.{none-some, plusGap-none}
+use Rattle.next_states.specs.NextStates.{loaded, nextValue, perKind, nextValues, noneOf, candidate, Counted, Ready, Open}
+use Rattle.next_states.proofs.Stored.{Fits, fits, stored-loaded, least-past}
 
 -- ---- from a row
 
 module _ {next gaps : List ℕ} {row w : ℕ} (r : Ready next gaps row w) where
   pub candidate-fits : (x : ℕ) → 1 ≤ x → x ≤ 5 → Fits (candidate next gaps row w x)
-  candidate-fits x l u = fits (candidate next gaps row w x) (λ c e. r .small x c l u e)
+  candidate-fits x l u = fits (candidate next gaps row w x) (r .counted x l u .small)
 
   -- kind x, from 0
   module _ (x : ℕ) where
     pub comes-to : plusGap w (gapBetween gaps row (x + 1)) (loaded (getD next x 0)) ≡ candidate next gaps row w (x + 1)
     comes-to = rw add-one
 
-    pub small-next : x < 5 → (c : ℕ) → plusGap w (gapBetween gaps row (x + 1)) (loaded (getD next x 0)) ≡ some c → c < 2 ^ 64 - 1
-    small-next h c e = r .small (x + 1) c (omega arith) (omega arith) (sym comes-to ∙ e)
+    pub counted-next : x < 5 → Counted (loaded (getD next x 0)) (gapBetween gaps row (x + 1)) w
+    counted-next h = rw add-one (r .counted (suc x) (omega arith) (omega arith))
 
 -- ---- values by kind
 
@@ -58,7 +60,7 @@ module _ (v : ℕ → Option ℕ) where
   at-kind (suc (suc (suc (suc (suc zero))))) l u = refl
   at-kind (suc (suc (suc (suc (suc (suc x)))))) l u = absurd (omega arith)
 
-  pub length-kinds : length (perKind v) ≡ 5
+  length-kinds : length (perKind v) ≡ 5
   unfolding perKind
   length-kinds = refl
 
@@ -89,60 +91,14 @@ loaded-only : (b : Bool) (v : ℕ) → loaded (stored (only b (loaded v))) ≡ o
 loaded-only true v = ap loaded (stored-loaded v)
 loaded-only false v = refl
 
-module _ (table left strides : List ℕ) (block index : ℕ) where
-  pub loaded-next : (x : ℕ) → 1 ≤ x → x ≤ 5 → loaded (at (nextValues table left strides block index) x) ≡ nextValue table left strides block index x
-  loaded-next x l u =
-      ap loaded (at-kind (nextValue table left strides block index) x l u)
-      ∙ loaded-only (ltb 0 (at left x)) (getD table ((x - 1) * block + index - at strides x) 0)
+module _ (P : Problem) (table k : List ℕ) where
+  pub loaded-next : (x : ℕ) → 1 ≤ x → x ≤ 5 → loaded (at (nextValues P table k) x) ≡ nextValue P table k x
+  loaded-next x l u = ap loaded (at-kind (nextValue P table k) x l u) ∙ loaded-only (ltb 0 (at k x)) (getD table (number P x (complete k x)) 0)
 
-  pub length-next : length (nextValues table left strides block index) ≡ 5
-  length-next = length-kinds (nextValue table left strides block index)
-
-  -- what is read for kind x, from 0
-  pub next-read : (x : ℕ) → stored (only (ltb 0 (getD left x 0)) (loaded (getD table (x * block + index - getD strides x 0) 0)))
-      ≡ stored (nextValue table left strides block index (suc x))
-  next-read x = let s : suc x - 1 ≡ x = omega arith in rw s
+  pub length-next : length (nextValues P table k) ≡ 5
+  length-next = length-kinds (nextValue P table k)
 
 -- ---- those that may follow a row
-
-behind-loaded : (g : Gap) (v : ℕ) → loaded (stored (behind g (loaded v))) ≡ behind g (loaded v)
-behind-loaded (Lasting s) v = ap loaded (stored-loaded v)
-behind-loaded Never v = refl
-
--- a gap is never, or nothing is lost behind it
-plus-behind : (w : ℕ) (g : Gap) (r : Option ℕ) → plusGap w g (behind g r) ≡ plusGap w g r
-plus-behind w (Lasting s) r = refl
-plus-behind w Never r = refl
-
-behind-never : (g : Gap) (r : Option ℕ) → behind g r ≢ none → g ≢ Never
-behind-never (Lasting s) r h = not-never s
-behind-never Never r h = absurd (h refl)
-
-module _ (next gaps : List ℕ) (row : ℕ) where
-  opened : (x : ℕ) → 1 ≤ x → x ≤ 5 → loaded (at (openValues next gaps row) x) ≡ behind (gapBetween gaps row x) (loaded (at next x))
-  opened x l u = ap loaded (at-kind (λ y. behind (gapBetween gaps row y) (loaded (at next y))) x l u) ∙ behind-loaded (gapBetween gaps row x) (at next x)
-
-  -- what is kept of kind x, from 0, whose gap was looked up
-  pub open-read : (x : ℕ) (g : Gap) → g ≡ gapBetween gaps row (x + 1)
-      → stored (behind g (loaded (getD next x 0))) ≡ stored (behind (gapBetween gaps row (suc x)) (loaded (at next (suc x))))
-  open-read x g e = rw (e, add-one)
-
-  -- every one of them may
-  pub open-is : Open (openValues next gaps row) gaps row
-  open-is x l u h = behind-never (gapBetween gaps row x) (loaded (at next x)) (λ e. h (opened x l u ∙ e))
-
-  module _ (w : ℕ) where
-    -- and each comes to what it came to
-    pub open-same : (x : ℕ) → 1 ≤ x → x ≤ 5 → candidate (openValues next gaps row) gaps row w x ≡ candidate next gaps row w x
-    open-same x l u = ap (plusGap w (gapBetween gaps row x)) (opened x l u) ∙ plus-behind w (gapBetween gaps row x) (loaded (at next x))
-
-    pub open-ready : Ready next gaps row w → Ready (openValues next gaps row) gaps row w
-    open-ready r = record {
-      row-in = r .row-in;
-      next-long = length-kinds (λ y. behind (gapBetween gaps row y) (loaded (at next y)));
-      gaps-long = r .gaps-long;
-      small = λ x c l u e. r .small x c l u (sym (open-same x l u) ∙ e);
-    }
 
 -- kind x, from 0, may follow where its next state has a value
 pub may-follow : (next gaps : List ℕ) (row : ℕ) → Open next gaps row → (x : ℕ) → x < 5 → loaded (getD next x 0) ≢ none → gapBetween gaps row (x + 1) ≢ Never
@@ -152,10 +108,51 @@ may-follow next gaps row o x h f = rw add-one (o (suc x) (omega arith) (omega ar
 pub all-open : (next gaps : List ℕ) (row : ℕ) → hasNever gaps ≡ false → Open next gaps row
 all-open next gaps row e x l u h n = none-never gaps (gapIndex row x) e (never-is (gapAt gaps row x) .0 n)
 
-module _ {table left strides : List ℕ} {block index : ℕ} where
-  -- the entry of (x; k), x from 0, from which the stride of a kind is taken off
-  pub entry-in : Loadable table left strides block index → (x y : ℕ) → y ≤ x → 0 < getD left x 0 → (x * block + index < length table) × (getD strides y 0 ≤ index)
-  entry-in r x y h l = (
-    lt-of-lt-of-le (digits-lt {q = x} {m = suc x} (omega arith) (r .index-in)) (r .inside (suc x) (omega arith) l),
-    r .earlier (suc x) (suc y) (omega arith) (omega arith) l,
-  )
+-- ---- where none has a value
+
+-- none of the first x has
+abbrev pub Passed : List ℕ → ℕ → Type 0
+Passed next x = noneOf next ≡ noneOf (drop x next)
+
+module _ (next : List ℕ) (x : ℕ) (w : Passed next x) where
+  here : x < length next → noneOf next ≡ (eqb (getD next x 0) (2 ^ 64 - 1) && noneOf (drop (suc x) next))
+  unfolding noneOf
+  here h = w ∙ ap noneOf (drop-cons next x 0 h)
+
+  pub passed-found : x < length next → getD next x 0 ≢ 2 ^ 64 - 1 → noneOf next ≡ false
+  passed-found h n = here h ∙ rw (ne-eqb (getD next x 0) (2 ^ 64 - 1) n)
+
+  pub passed-more : x < length next → getD next x 0 ≡ 2 ^ 64 - 1 → Passed next (x + 1)
+  passed-more h e = here h ∙ rw (e, add-one x)
+
+  pub passed-all : length next ≤ x → noneOf next ≡ true
+  unfolding noneOf
+  passed-all h = w ∙ ap noneOf (drop-of-length-le next h)
+
+both : (a b : Bool) → (a && b) ≡ true → (a ≡ true) × (b ≡ true)
+both true b e = (refl, e)
+both false b e = absurd (false≢true e)
+
+-- no entry has one
+all-none : (next : List ℕ) → noneOf next ≡ true → (x : ℕ) → 1 ≤ x → x ≤ length next → loaded (at next x) ≡ none
+unfolding noneOf
+all-none next e zero l u = absurd (omega arith)
+all-none [] e (suc x) l u = absurd (omega arith)
+all-none (v ∷ vs) e (suc zero) l u = rw (both (eqb v (2 ^ 64 - 1)) (noneOf vs) e .0)
+all-none (v ∷ vs) e (suc (suc x)) l u = all-none vs (both (eqb v (2 ^ 64 - 1)) (noneOf vs) e .1) (suc x) (omega arith) (omega arith)
+
+-- so nothing follows, from any row
+pub none-least : (next gaps : List ℕ) (row w : ℕ) → length next ≡ 5 → noneOf next ≡ true → least (candidate next gaps row w) 5 ≡ none
+unfolding least
+none-least next gaps row w l e =
+    least-past (candidate next gaps row w) 0 5
+    (λ x low high. ap (plusGap w (gapBetween gaps row x)) (all-none next e x (omega arith) (omega arith)) ∙ plusGap-none w (gapBetween gaps row x))
+
+-- else some entry has
+pub none-of : (next : List ℕ) → noneOf next ≡ false → ((x : ℕ) → 1 ≤ x → x ≤ length next → loaded (at next x) ≡ none) → ⊥
+unfolding noneOf
+none-of [] e h = false≢true (sym e)
+none-of (v ∷ vs) e h = elim (bool-cases (eqb v (2 ^ 64 - 1))) [
+  | inl t ↦ none-of vs (rw t at e) (elim [ zero ↦ (λ l u. absurd (omega arith)) | suc x ↦ (λ l u. h (suc (suc x)) (omega arith) (omega arith)) ])
+  | inr f ↦ none-some v (sym (h 1 (omega arith) (omega arith)) ∙ rw f)
+]

@@ -1,3 +1,4 @@
 pub mod Stored
+pub mod Numbers
 pub mod Candidates
 pub mod Lowest

@@ -3,19 +3,26 @@
 use Prim.Native.Nat.{ℕ, suc, _+_, _-_, _^_, _<_, _≤_, min}
 use mathlib.Core.Bool.{cond}
 use mathlib.Core.Option.{Option, none, some}
-use mathlib.Core.Path.{_≡_, sym, ap, _∙_}
+use mathlib.Core.Path.{_≡_, refl, sym, ap, _∙_}
 use native.Mathlib.Numerals.{add-one}
 use native.Mathlib.Omega.{arith}
 use lib.Dec.{ltb}
+use borrow.Author.Tests.{le-ltb}
 use Rattle.units.specs.Costs.{costIn, numberOf}
 use Rattle.units.proofs.Costs.{number-is}
 use Rattle.sequencing.specs.Least.{least, argLeast}
-use Rattle.sequencing.proofs.Least.{least-ext, arg-ext}
 use Rattle.sequencing.proofs.Options.{none-some}
 use Rattle.sequencing.specs.Entries.{stored}
 use Rattle.next_states.specs.declared.Least.{Least}
 use Rattle.next_states.specs.NextStates.{IsLeast}
 use Rattle.next_states.proofs.Stored.{Fits, fits-stored, fits-least, stored-lower, stored-taken, stored-none}
+
+-- a kind that nothing is found for changes nothing
+pub unchanged : (goal : ℕ) {best : Least} (v : Option ℕ) (kind : ℕ) → v ≡ none → best .cost ≡ costIn goal (numberOf (best .cost)) → numberOf (best .cost) < 2 ^ 64
+    → (best .cost ≡ costIn goal (min (numberOf (best .cost)) (stored v))) × (best .kind ≡ cond (ltb (stored v) (numberOf (best .cost))) kind (best .kind))
+unchanged goal {best} v kind e unit fits =
+    let n = numberOf (best .cost) in
+    rw (e, le-ltb (2 ^ 64 - 1) n (omega arith)) (unit ∙ ap (costIn goal) (omega arith), refl)
 
 -- the least of the first x kinds
 pub record Lowest (goal : ℕ) (f : ℕ → Option ℕ) (best : Least) (x : ℕ) : Type 0 where
@@ -58,11 +65,3 @@ module _ {goal : ℕ} {f : ℕ → Option ℕ} {best : Least} where
 
     pub lowest-done : 5 ≤ x → IsLeast goal f best
     lowest-done h = let e : 5 ≡ x = omega (arith, w .few) in record { cost-is = rw e (w .cost-is); kind-is = rw e (w .kind-is); no-kind = rw e (w .no-kind) }
-
--- the same values by kind have the same least
-pub least-same : {goal : ℕ} {f g : ℕ → Option ℕ} {r : Least} → ((x : ℕ) → 1 ≤ x → x ≤ 5 → f x ≡ g x) → IsLeast goal f r → IsLeast goal g r
-least-same {f = f} {g = g} same w = record {
-  cost-is = rw (← (least-ext f g 5 same)) (w .cost-is);
-  kind-is = λ c e. w .kind-is c (least-ext f g 5 same ∙ e) ∙ arg-ext f g 5 same;
-  no-kind = λ e. w .no-kind (least-ext f g 5 same ∙ e);
-}

@@ -1,21 +1,26 @@
-// The next states of one k: what the table holds for them, and the least over them from any row.
+// The next states of one k: where they stand in the table, what it holds for them, and the least over them from any row.
 use gaps::Gap;
 use units::Cost;
 use units::PupilSeconds;
 use units::Seconds;
 ghost use mathlib.Core.Path.{_≡_};
 ghost use mathlib.Core.Bool.{cond};
+ghost use mathlib.Core.List.{List};
 ghost use mathlib.Core.Logic.{_≢_};
-ghost use mathlib.Core.Option.{none, some};
-ghost use Prim.Native.Nat.{ℕ, min, _+_, _-_, _*_, _^_, _≤_, _<_};
+ghost use mathlib.Core.Option.{none};
+ghost use Prim.Native.Nat.{ℕ, suc, min, _+_, _*_, _^_, _≤_, _<_};
 ghost use lib.Dec.{ltb};
 ghost use lib.ListN.{length, getD};
 ghost use Rattle.units.specs.Costs.{costIn, numberOf};
 ghost use Rattle.gaps.specs.declared.Gap.the-variants.{Never};
 ghost use Rattle.gaps.specs.Gaps.{gapIndex, gapBetween, hasNever};
-ghost use Rattle.sequencing.specs.Least.{only, plusGap};
-ghost use Rattle.sequencing.specs.Entries.{stored};
-ghost use Rattle.next_states.specs.NextStates.{loaded, nextValues, behind, openValues, candidate, IsLeast, Loadable, Ready, Open};
+ghost use Rattle.sequencing.specs.Lists.{at};
+ghost use Rattle.sequencing.specs.Problem.{Problem};
+ghost use Rattle.sequencing.specs.States.{complete};
+ghost use Rattle.sequencing.specs.Least.{plusGap};
+ghost use Rattle.sequencing.specs.Entries.{stored, number, kAt, block, entries};
+ghost use Rattle.next_states.specs.Numbers.{Numbers, Steppable, Running};
+ghost use Rattle.next_states.specs.NextStates.{loaded, nextValue, nextValues, noneOf, candidate, Counted, IsLeast, Ready, Open};
 
 // An entry that holds no value.
 pub const NONE: u64 = 18446744073709551615;
@@ -28,7 +33,7 @@ pub struct Least {
 
 // One step's cost and what comes after it, in the goal's own unit.
 fn step_cost(goal: u32, weight: u64, gap: Seconds, value: u64) -> Cost
-    requires { ⌜ (goal ≡ 1 → weight ≡ 1) × (weight * gap .0 + value < 2 ^ 64) ⌝ }
+    requires { ⌜ (goal ≡ 1 → weight ≡ 1) × ((weight < 2 ^ 16) × ((gap .0 < 2 ^ 16) × (weight * gap .0 + value < 2 ^ 64))) ⌝ }
     ensures { λ r. ⌜ r ≡ costIn goal (weight * gap .0 + value) ⌝ }
 {
     if goal == 1 {
@@ -44,14 +49,14 @@ fn step_cost(goal: u32, weight: u64, gap: Seconds, value: u64) -> Cost
 fn lower(
     best: Least,
     value: u64,
-    gaps: &[u32],
+    gaps: &[u32; 30],
     row: usize,
     goal: u32,
     weight: u64,
     kind: usize,
 ) -> Least
     requires { ⌜ (gapIndex row kind < length (now gaps)) × (loaded value ≢ none → gapBetween (now gaps) row kind ≢ Never) ⌝ }
-    requires { ⌜ (goal ≡ 1 → weight ≡ 1) × ((c : ℕ) → plusGap weight (gapBetween (now gaps) row kind) (loaded value) ≡ some c → c < 2 ^ 64 - 1) ⌝ }
+    requires { ⌜ (goal ≡ 1 → weight ≡ 1) × (Counted (loaded value) (gapBetween (now gaps) row kind) weight) ⌝ }
     requires { ⌜ (best .cost ≡ costIn goal (numberOf (best .cost))) × (numberOf (best .cost) < 2 ^ 64) ⌝ }
     ensures { λ r. ⌜ r .cost ≡ costIn goal (min (numberOf (best .cost)) (stored (plusGap weight (gapBetween (now (gaps .entry)) row kind) (loaded value)))) ⌝ }
     ensures { λ r. ⌜ r .kind ≡ cond (ltb (stored (plusGap weight (gapBetween (now (gaps .entry)) row kind) (loaded value))) (numberOf (best .cost))) kind (best .kind) ⌝ }
@@ -69,9 +74,35 @@ fn lower(
     }
 }
 
+// The same where the kind may be forbidden after row: then it changes nothing either.
+fn lower_open(
+    best: Least,
+    value: u64,
+    gaps: &[u32; 30],
+    row: usize,
+    goal: u32,
+    weight: u64,
+    kind: usize,
+) -> Least
+    requires { ⌜ gapIndex row kind < length (now gaps) ⌝ }
+    requires { ⌜ (goal ≡ 1 → weight ≡ 1) × (Counted (loaded value) (gapBetween (now gaps) row kind) weight) ⌝ }
+    requires { ⌜ (best .cost ≡ costIn goal (numberOf (best .cost))) × (numberOf (best .cost) < 2 ^ 64) ⌝ }
+    ensures { λ r. ⌜ r .cost ≡ costIn goal (min (numberOf (best .cost)) (stored (plusGap weight (gapBetween (now (gaps .entry)) row kind) (loaded value)))) ⌝ }
+    ensures { λ r. ⌜ r .kind ≡ cond (ltb (stored (plusGap weight (gapBetween (now (gaps .entry)) row kind) (loaded value))) (numberOf (best .cost))) kind (best .kind) ⌝ }
+{
+    if value == NONE {
+        return best;
+    }
+    let gap = gaps::gap_after(gaps, row, kind);
+    match gap {
+        Gap::Never => best,
+        Gap::Lasting(_) => lower(best, value, gaps, row, goal, weight, kind),
+    }
+}
+
 // The least over the next states after row (a kind, or 0 for the cold cutter), all of which may follow it. All five places are looked at, NONE where there
 // is no kind: a loop of a fixed length is unrolled.
-pub fn least_of(next: &[u64], gaps: &[u32], row: usize, goal: u32, weight: u64) -> Least
+pub fn least_of(next: &[u64], gaps: &[u32; 30], row: usize, goal: u32, weight: u64) -> Least
     requires { ⌜ Ready (now next) (now gaps) row weight × (Open (now next) (now gaps) row × (goal ≡ 1 → weight ≡ 1)) ⌝ }
     ensures { λ r. ⌜ IsLeast goal (candidate (now (next .entry)) (now (gaps .entry)) row weight) r ⌝ }
 {
@@ -87,87 +118,109 @@ pub fn least_of(next: &[u64], gaps: &[u32], row: usize, goal: u32, weight: u64) 
     best
 }
 
-// A value behind a gap: NONE behind never. The value comes first, since the loop is the faster for it.
-fn value_behind(value: u64, gap: Gap) -> u64
-    ensures { λ r. ⌜ r ≡ stored (behind gap (loaded value)) ⌝ }
-{
-    match gap {
-        Gap::Never => NONE,
-        Gap::Lasting(_) => value,
-    }
-}
-
-// The next states' entries, NONE where the kind may not follow row.
-fn open_next(next: &[u64], gaps: &[u32], row: usize) -> [u64; 5]
-    requires { ⌜ (length (now next) ≡ 5) × ((length (now gaps) ≡ 30) × (row ≤ 5)) ⌝ }
-    ensures { λ r. ⌜ r ≡ openValues (now (next .entry)) (now (gaps .entry)) row ⌝ }
-{
-    let mut values = [NONE; 5];
-    let mut x: usize = 0;
-    while x < 5 {
-        values[x] = value_behind(next[x], gaps::gap_after(gaps, row, x + 1));
-        x = x + 1;
-    }
-    values
-}
-
-// The least over the next states that may follow row: the others are taken out first.
-pub fn least_open(next: &[u64], gaps: &[u32], row: usize, goal: u32, weight: u64) -> Least
+// The least over the next states that may follow row: the others are passed over.
+pub fn least_open(next: &[u64], gaps: &[u32; 30], row: usize, goal: u32, weight: u64) -> Least
     requires { ⌜ Ready (now next) (now gaps) row weight × (goal ≡ 1 → weight ≡ 1) ⌝ }
     ensures { λ r. ⌜ IsLeast goal (candidate (now (next .entry)) (now (gaps .entry)) row weight) r ⌝ }
 {
-    let values = open_next(next, gaps, row);
-    least_of(&values, gaps, row, goal, weight)
+    let mut best = Least {
+        cost: units::cost_in(goal, NONE),
+        kind: 0,
+    };
+    let mut x: usize = 0;
+    while x < 5 {
+        best = lower_open(best, next[x], gaps, row, goal, weight, x + 1);
+        x = x + 1;
+    }
+    best
 }
 
-// The entry of the next state by way of kind x (from 0), NONE where no job of it is left.
-fn next_value(table: &[u64], left: u32, stride: usize, x: usize, block: usize, index: usize) -> u64
-    requires { ⌜ (0 < left → (x * block + index < length (now table)) × (stride ≤ index)) ⌝ }
-    ensures { λ r. ⌜ r ≡ stored (only (ltb 0 left) (loaded (getD (now (table .entry)) (x * block + index - stride) 0))) ⌝ }
+// Whether no next state has a value, as where nothing is left.
+pub fn none_next(next: &[u64]) -> bool
+    requires { ⌜ length (now next) ≡ 5 ⌝ }
+    ensures { λ r. ⌜ r ≡ noneOf (now (next .entry)) ⌝ }
+{
+    let mut x: usize = 0;
+    while x < 5 {
+        if next[x] != NONE {
+            return false;
+        }
+        x = x + 1;
+    }
+    true
+}
+
+// 01's entry of (L; k), L from 0: the running number, and L's block added.
+pub fn state_entry(blocks: &[usize; 5], index: usize, kind: usize) -> usize
+    requires { ⌜ (kind < 5) × (index + getD (now blocks) kind 0 < 2 ^ 64) ⌝ }
+    ensures { λ r. ⌜ ((P : Problem) (strides : List ℕ) → Numbers P strides (now (blocks .entry)) → index < block P → kind < P .N → r ≡ number P (suc kind) (kAt P index)) ⌝ }
+{
+    index + blocks[kind]
+}
+
+// 01's entry of the next state by way of kind x (from 0): x's weight taken off the running number, and x's block added.
+fn next_entry(strides: &[usize; 5], blocks: &[usize; 5], index: usize, x: usize) -> usize
+    requires { ⌜ Steppable (now strides) (now blocks) index x ⌝ }
+    ensures { λ r. ⌜ ((P : Problem) → Numbers P (now (strides .entry)) (now (blocks .entry)) → index < block P → 0 < at (kAt P index) (suc x) → r ≡ number P (suc x) (complete (kAt P index) (suc x))) ⌝ }
+{
+    index - strides[x] + blocks[x]
+}
+
+// What the table holds for that state, NONE where no job of x is left.
+fn next_value(
+    table: &[u64],
+    left: u32,
+    strides: &[usize; 5],
+    blocks: &[usize; 5],
+    index: usize,
+    x: usize,
+) -> u64
+    requires { ⌜ ((P : Problem) × (Numbers P (now strides) (now blocks) × ((index < block P) × ((entries P ≤ length (now table)) × (left ≡ at (kAt P index) (suc x)))))) ⌝ }
+    ensures { λ r. ⌜ ((P : Problem) → Numbers P (now (strides .entry)) (now (blocks .entry)) → index < block P → left ≡ at (kAt P index) (suc x) → r ≡ stored (nextValue P (now (table .entry)) (kAt P index) (suc x))) ⌝ }
 {
     if left == 0 {
         return NONE;
     }
-    table[x * block + index - stride]
+    table[next_entry(strides, blocks, index, x)]
 }
 
 // The next states' entries, kind by kind, read once for all states with one k.
 pub fn load_next(
     table: &[u64],
-    left: &[u32],
-    strides: &[usize],
-    block: usize,
+    left: &[u32; 5],
+    strides: &[usize; 5],
+    blocks: &[usize; 5],
     index: usize,
 ) -> [u64; 5]
-    requires { ⌜ Loadable (now table) (now left) (now strides) block index ⌝ }
-    ensures { λ r. ⌜ r ≡ nextValues (now (table .entry)) (now (left .entry)) (now (strides .entry)) block index ⌝ }
+    requires { ⌜ ((P : Problem) × (Running P (now left) (now strides) (now blocks) index × (entries P ≤ length (now table)))) ⌝ }
+    ensures { λ r. ⌜ ((P : Problem) → Running P (now (left .entry)) (now (strides .entry)) (now (blocks .entry)) index → r ≡ nextValues P (now (table .entry)) (kAt P index)) ⌝ }
 {
     let mut next = [NONE; 5];
     let mut x: usize = 0;
     while x < 5 {
-        next[x] = next_value(table, left[x], strides[x], x, block, index);
+        next[x] = next_value(table, left[x], strides, blocks, index, x);
         x = x + 1;
     }
     next
 }
 
-// The least over the next states after row, by the table, told whether any gap is never: most queues have none, and nothing is taken out.
+// The least over the next states after row, by the table, told whether any gap is never: most queues have none, and nothing is compared with it.
 pub fn best_next(
     table: &[u64],
-    left: &[u32],
-    strides: &[usize],
-    gaps: &[u32],
+    left: &[u32; 5],
+    strides: &[usize; 5],
+    blocks: &[usize; 5],
+    gaps: &[u32; 30],
     forbids: bool,
-    block: usize,
     index: usize,
     row: usize,
     goal: u32,
     weight: u64,
 ) -> Least
-    requires { ⌜ Loadable (now table) (now left) (now strides) block index × (Ready (nextValues (now table) (now left) (now strides) block index) (now gaps) row weight × ((forbids ≡ hasNever (now gaps)) × (goal ≡ 1 → weight ≡ 1))) ⌝ }
-    ensures { λ r. ⌜ IsLeast goal (candidate (nextValues (now (table .entry)) (now (left .entry)) (now (strides .entry)) block index) (now (gaps .entry)) row weight) r ⌝ }
+    requires { ⌜ ((P : Problem) × (Running P (now left) (now strides) (now blocks) index × ((entries P ≤ length (now table)) × (Ready (nextValues P (now table) (kAt P index)) (now gaps) row weight × ((forbids ≡ hasNever (now gaps)) × (goal ≡ 1 → weight ≡ 1)))))) ⌝ }
+    ensures { λ r. ⌜ ((P : Problem) → Running P (now (left .entry)) (now (strides .entry)) (now (blocks .entry)) index → IsLeast goal (candidate (nextValues P (now (table .entry)) (kAt P index)) (now (gaps .entry)) row weight) r) ⌝ }
 {
-    let next = load_next(table, left, strides, block, index);
+    let next = load_next(table, left, strides, blocks, index);
     if forbids {
         return least_open(&next, gaps, row, goal, weight);
     }

@@ -12,6 +12,7 @@ use Rattle.gaps.specs.Gaps.{hasNever}
 use Rattle.queue.specs.declared.Queue.{Queue}
 use Rattle.queue.specs.Record.{weight, Valid}
 use Rattle.sequencing.specs.Lists.{sum, weigh}
+use Rattle.sequencing.specs.Problem.{Problem}
 use Rattle.sequencing.specs.Recursion.{W, toGo, costToGo}
 use Rattle.sequencing.specs.Entries.{kAt, block, entries}
 use Rattle.sequencing.proofs.AllJobs.{left-small}
@@ -27,9 +28,10 @@ use Rattle.layout.specs.declared.Layout.{Layout}
 use Rattle.layout.specs.Prepared.{Prepared}
 use Rattle.units.specs.Costs.{costIn}
 use Rattle.next_states.specs.declared.Least.{Least}
-use Rattle.next_states.specs.NextStates.{nextValues, candidate, Loadable, Ready, IsLeast}
+use Rattle.next_states.specs.Numbers.{Running}
+use Rattle.next_states.specs.NextStates.{nextValues, candidate, Ready, IsLeast}
 use Rattle.filling.specs.Filling.{Earlier}
-use Rattle.filling.proofs.Values.{Look, loadable, ready, least-is, taken-is}
+use Rattle.filling.proofs.Values.{Look, running, ready, least-is, taken-is}
 use Rattle.solver.specs.Looking.{LooksAt, LookedUp}
 use Rattle.solver.proofs.Walking.{some-cost, Chosen}
 
@@ -55,7 +57,7 @@ module _ {q : Queue} {l : Layout} (v : Valid q) (p : Prepared q l) {left : List 
   -- a look by the queue's own arrays
   pub own-looks : {table : List ℕ} → Earlier (problem q) table (block (problem q)) → entries (problem q) ≤ length table → length (q .gaps) ≡ 30
       → {jobs total : ℕ} → Summed (q .weights) (take (q .kinds) left) jobs total
-      → LooksAt q l table left (l .strides) (q .gaps) (l .forbids) (l .size .block) (q .goal) (record { index = i; jobs = jobs; weight = total })
+      → LooksAt q l table left (l .strides) (l .blocks) (q .gaps) (l .forbids) (q .goal) (record { index = i; jobs = jobs; weight = total })
   own-looks all room long sums = record {
     valid = v;
     prepared = p;
@@ -64,10 +66,10 @@ module _ {q : Queue} {l : Layout} (v : Valid q) (p : Prepared q l) {left : List 
     left-is = w;
     sums-are = sums;
     strides-are = refl;
+    blocks-are = refl;
     gaps-are = refl;
     gaps-long = long;
     forbids-is = refl;
-    size-is = refl;
     goal-is = refl;
   }
 
@@ -90,11 +92,11 @@ module _ {q : Queue} {l : Layout} {table left : List ℕ} {i : ℕ} (look : Look
 
   -- what looking for the next kind may rely on
   pub may-look : (row : ℕ) → row ≤ q .kinds
-      → Loadable table left (l .strides) (l .size .block) i × (Ready (nextValues table left (l .strides) (l .size .block) i) (q .gaps) row w × ((l .forbids ≡ hasNever (q .gaps)) × (q .goal ≡ 1 → w ≡ 1)))
-  may-look row u = (loadable look, (rw step-is (ready look row u), (look .prepared .forbids-is, λ e. step ∙ rw (eq-eqb _ _ e))))
+      → (P : Problem) × (Running P left (l .strides) (l .blocks) i × ((entries P ≤ length table) × (Ready (nextValues P table (kAt P i)) (q .gaps) row w × ((l .forbids ≡ hasNever (q .gaps)) × (q .goal ≡ 1 → w ≡ 1)))))
+  may-look row u = (problem q, (running look, (look .room, (rw step-is (ready look row u), (look .prepared .forbids-is, λ e. step ∙ rw (eq-eqb _ _ e))))))
 
   -- what is found is the recursion's choice
-  pub looked : (row : ℕ) {r : Least} → IsLeast (q .goal) (candidate (nextValues table left (l .strides) (l .size .block) i) (q .gaps) row w) r → Chosen (problem q) (q .goal) row (kAt (problem q) i) r
+  pub looked : (row : ℕ) {r : Least} → IsLeast (q .goal) (candidate (nextValues (problem q) table (kAt (problem q) i)) (q .gaps) row w) r → Chosen (problem q) (q .goal) row (kAt (problem q) i) r
   looked row found =
       let f = rw step-is at found in
       record {
@@ -104,7 +106,7 @@ module _ {q : Queue} {l : Layout} {table left : List ℕ} {i : ℕ} (look : Look
       }
 
 -- a look, by its arrays
-module _ {q : Queue} {l : Layout} {table left strides gaps : List ℕ} {forbids : Bool} {size goal : ℕ} {k : JobsLeft} (a : LooksAt q l table left strides gaps forbids size goal k) where
+module _ {q : Queue} {l : Layout} {table left strides blocks gaps : List ℕ} {forbids : Bool} {goal : ℕ} {k : JobsLeft} (a : LooksAt q l table left strides blocks gaps forbids goal k) where
   as-look : Look q l table left (k .index)
   as-look = whole (a .valid) (a .prepared) (a .left-is) (rw (a .gaps-are) at (a .gaps-long)) (a .filled) (a .room)
 
@@ -113,6 +115,10 @@ module _ {q : Queue} {l : Layout} {table left strides gaps : List ℕ} {forbids 
 
   weight-is : k .weight ≡ weigh (weight q) (kAt (problem q) (k .index))
   weight-is = a .sums-are .weight-is ∙ ap (weigh (weight q)) (a .left-is .here)
+
+  -- its running number
+  pub running-at : Running (problem q) left strides blocks (k .index)
+  running-at = rw (a .strides-are, a .blocks-are) (running as-look)
 
   module _ (row : ℕ) {r : Least} where
     -- nothing is left
@@ -132,14 +138,14 @@ module _ {q : Queue} {l : Layout} {table left strides gaps : List ℕ} {forbids 
     own-step = rw (a .goal-is) at step
 
     pub may-look-at : row ≤ q .kinds
-        → Loadable table left strides size (k .index) × (Ready (nextValues table left strides size (k .index)) gaps row w × ((forbids ≡ hasNever gaps) × (goal ≡ 1 → w ≡ 1)))
-    may-look-at u = rw (a .strides-are, a .gaps-are, a .forbids-is, a .size-is, a .goal-is) (may-look as-look weight-is own-step row u)
+        → (P : Problem) × (Running P left strides blocks (k .index) × ((entries P ≤ length table) × (Ready (nextValues P table (kAt P (k .index))) gaps row w × ((forbids ≡ hasNever gaps) × (goal ≡ 1 → w ≡ 1)))))
+    may-look-at u = rw (a .strides-are, a .blocks-are, a .gaps-are, a .forbids-is, a .goal-is) (may-look as-look weight-is own-step row u)
 
     -- something is left
-    pub found-there : {r : Least} → (k .jobs ≡ 0 → ⊥) → IsLeast goal (candidate (nextValues table left strides size (k .index)) gaps row w) r
+    pub found-there : {r : Least} → (k .jobs ≡ 0 → ⊥) → IsLeast goal (candidate (nextValues (problem q) table (kAt (problem q) (k .index))) gaps row w) r
         → LookedUp q row (kAt (problem q) (k .index)) r
     found-there some-left found =
-        let f = looked as-look weight-is own-step row (rw (a .strides-are, a .gaps-are, a .size-is, a .goal-is) at found) in
+        let f = looked as-look weight-is own-step row (rw (a .gaps-are, a .goal-is) at found) in
         let e = cost-some-left (problem q) row (kAt (problem q) (k .index)) (omega (arith, jobs-are)) in
         record {
           cost-is = f .cost-is ∙ rw e;

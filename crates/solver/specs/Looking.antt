@@ -20,8 +20,8 @@ use Rattle.layout.specs.Prepared.{Prepared}
 use Rattle.next_states.specs.declared.Least.{Least}
 use Rattle.filling.specs.Filling.{Earlier}
 
--- the arrays of a look are a queue's: its filled table, its gaps, the strides of its entries, and one k of it with its sums
-pub record LooksAt (q : Queue) (l : Layout) (table left strides gaps : List ℕ) (forbids : Bool) (size goal : ℕ) (k : JobsLeft) : Type 0 where
+-- the arrays of a look are a queue's: its filled table, its gaps, what its entry numbers are made of, and one k of it with its sums
+pub record LooksAt (q : Queue) (l : Layout) (table left strides blocks gaps : List ℕ) (forbids : Bool) (goal : ℕ) (k : JobsLeft) : Type 0 where
   pub valid : Valid q
   pub prepared : Prepared q l
   pub filled : Earlier (problem q) table (block (problem q))
@@ -29,10 +29,10 @@ pub record LooksAt (q : Queue) (l : Layout) (table left strides gaps : List ℕ)
   pub left-is : LeftAt (problem q) left (k .index)
   pub sums-are : Summed (q .weights) (take (q .kinds) left) (k .jobs) (k .weight)
   pub strides-are : strides ≡ l .strides
+  pub blocks-are : blocks ≡ l .blocks
   pub gaps-are : gaps ≡ q .gaps
   pub gaps-long : length gaps ≡ 30
   pub forbids-is : forbids ≡ l .forbids
-  pub size-is : size ≡ l .size .block
   pub goal-is : goal ≡ q .goal
 
 -- what is found from row L with k left: the least cost of what is left, in the goal's unit, and the recursion's next kind, 0 where there is none

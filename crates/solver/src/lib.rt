@@ -28,17 +28,17 @@ pub struct Solution {
 // is, and the next kind.
 pub fn look(
     table: &[u64],
-    left: &[u32],
-    strides: &[usize],
-    gaps: &[u32],
+    left: &[u32; 5],
+    strides: &[usize; 5],
+    blocks: &[usize; 5],
+    gaps: &[u32; 30],
     forbids: bool,
-    block: usize,
     goal: u32,
     k: JobsLeft,
     row: usize,
 ) -> Least
-    requires { ⌜ ((q : Queue) × (l : Layout) × (LooksAt q l (now table) (now left) (now strides) (now gaps) forbids block goal k × (row ≤ q .kinds))) ⌝ }
-    ensures { λ r. ⌜ ((q : Queue) (l : Layout) → LooksAt q l (now (table .entry)) (now (left .entry)) (now (strides .entry)) (now (gaps .entry)) forbids block goal k → LookedUp q row (kAt (problem q) (k .index)) r) ⌝ }
+    requires { ⌜ ((q : Queue) × (l : Layout) × (LooksAt q l (now table) (now left) (now strides) (now blocks) (now gaps) forbids goal k × (row ≤ q .kinds))) ⌝ }
+    ensures { λ r. ⌜ ((q : Queue) (l : Layout) → LooksAt q l (now (table .entry)) (now (left .entry)) (now (strides .entry)) (now (blocks .entry)) (now (gaps .entry)) forbids goal k → LookedUp q row (kAt (problem q) (k .index)) r) ⌝ }
 {
     if k.jobs == 0 {
         return Least {
@@ -51,9 +51,9 @@ pub fn look(
         table,
         left,
         strides,
+        blocks,
         gaps,
         forbids,
-        block,
         k.index,
         row,
         goal,
@@ -71,6 +71,7 @@ fn first_choice(queue: Queue, layout: Layout, table: &[u64]) -> Least
     let weights = queue.weights;
     let counts = layout.counts;
     let strides = layout.strides;
+    let blocks = layout.blocks;
     let all = JobsLeft {
         index: size.block - 1,
         jobs: size.jobs,
@@ -81,9 +82,9 @@ fn first_choice(queue: Queue, layout: Layout, table: &[u64]) -> Least
         table,
         &counts,
         &strides,
+        &blocks,
         &gaps,
         layout.forbids,
-        size.block,
         queue.goal,
         all,
         row,
@@ -137,6 +138,7 @@ pub fn follow(
     let jobs = layout.jobs;
     let begins = layout.begins;
     let strides = layout.strides;
+    let blocks = layout.blocks;
     let forbids = layout.forbids;
     let mut order = [0u8; 60];
     let mut left = from;
@@ -152,9 +154,9 @@ pub fn follow(
             table,
             &left,
             &strides,
+            &blocks,
             &gaps,
             forbids,
-            size.block,
             at,
             kind,
             queue.goal,

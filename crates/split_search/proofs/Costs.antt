@@ -86,8 +86,8 @@ alone-both goal (some a) none most = most a refl
 alone-both goal (some a) (some b) most = elim (dichotomy (eqb goal 1)) [ inr e ↦ rw e (omega arith) | inl e ↦ rw e (omega arith) ]
 
 -- of one split
-module _ {q : Queue} {l : Layout} {table left counts strides gaps : List ℕ} {goal : ℕ} {b : Bench} {k : JobsLeft}
-    (s : SplitsAt q l table left counts strides gaps goal b k) where
+module _ {q : Queue} {l : Layout} {table left counts strides blocks gaps : List ℕ} {goal : ℕ} {b : Bench} {k : JobsLeft}
+    (s : SplitsAt q l table left counts strides blocks gaps goal b k) where
   abbrev A : Option ℕ
   A = costToGo (problem q) (q .start) (kAt (problem q) (k .index))
 

@@ -68,8 +68,8 @@ weigh-rest f (c ∷ cs) (a ∷ k) (b ∷ l) e g h =
 
 -- ---- the second cutter's counts
 
-module _ {q : Queue} {l : Layout} {table left counts strides gaps : List ℕ} {goal : ℕ} {b : Bench} {k : JobsLeft}
-    (s : SplitsAt q l table left counts strides gaps goal b k) where
+module _ {q : Queue} {l : Layout} {table left counts strides blocks gaps : List ℕ} {goal : ℕ} {b : Bench} {k : JobsLeft}
+    (s : SplitsAt q l table left counts strides blocks gaps goal b k) where
   abbrev mirrored : ℕ
   mirrored = b .size .block - 1 - k .index
 
@@ -153,7 +153,7 @@ module _ {q : Queue} {l : Layout} {table left counts strides gaps : List ℕ} {g
         }
 
     -- the look at them
-    pub rest-looks : LooksAt q l table rest strides gaps (b .forbids) (b .size .block) goal
+    pub rest-looks : LooksAt q l table rest strides blocks gaps (b .forbids) goal
         (record { index = mirrored; jobs = b .size .jobs - k .jobs; weight = b .weight - k .weight })
     rest-looks = record {
       valid = s .looks .valid;
@@ -166,9 +166,9 @@ module _ {q : Queue} {l : Layout} {table left counts strides gaps : List ℕ} {g
         weight-is = omega (arith, weights-add, weight-here);
       };
       strides-are = s .looks .strides-are;
+      blocks-are = s .looks .blocks-are;
       gaps-are = s .looks .gaps-are;
       gaps-long = s .looks .gaps-long;
       forbids-is = s .looks .forbids-is;
-      size-is = s .looks .size-is;
       goal-is = s .looks .goal-is;
     }

@@ -103,7 +103,7 @@ module _ {q : Queue} {l : Layout} {table : List ℕ} {second : ℕ} (g : Given q
       (sums-are : Summed (q .weights) (take (q .kinds) left) (k .jobs) (k .weight)) where
     -- what the cost of the split with these counts is found from
     pub splits : {total : ℕ} → total ≡ weigh (weight q) (take (l .size .kinds) (l .counts))
-        → SplitsAt q l table left (l .counts) (l .strides) (q .gaps) (q .goal)
+        → SplitsAt q l table left (l .counts) (l .strides) (l .blocks) (q .gaps) (q .goal)
         (record { size = l .size; weight = total; start = q .start; second = second; forbids = l .forbids }) k
     splits e = record {
       looks = own-looks (g .valid) (g .prepared) left-is (g .filled) (g .room) (g .gaps-long) sums-are;

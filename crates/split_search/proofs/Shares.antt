@@ -51,7 +51,7 @@ module _ {q : Queue} {l : Layout} {left upto : List ℕ} {index jobs L : ℕ} (s
 
   pub share-looks : {table : List ℕ} → Earlier (problem q) table (block (problem q)) → entries (problem q) ≤ length table → length (q .gaps) ≡ 30
       → {w : ℕ} → w ≡ weigh (weight q) (take (l .size .kinds) left)
-      → LooksAt q l table left (l .strides) (q .gaps) (l .forbids) (l .size .block) (q .goal) (record { index = index; jobs = jobs; weight = w })
+      → LooksAt q l table left (l .strides) (l .blocks) (q .gaps) (l .forbids) (q .goal) (record { index = index; jobs = jobs; weight = w })
   share-looks full room long e = own-looks (s .valid) (s .prepared) (s .left-is) full room long
       (record { jobs-are = s .jobs-are ∙ ap sum (sym (s .left-is .here)); weight-is = e ∙ rw (s .prepared .kinds-are) })
 
@@ -113,7 +113,7 @@ module _ {q : Queue} {l : Layout} {table : List ℕ} {second : ℕ} (g : Given q
   abbrev own : JobsLeft
   own = record { index = r .index; jobs = r .jobs; weight = weigh (weight q) (take (q .kinds) (r .counts)) }
 
-  pub part : SplitsAt q l table (r .counts) (l .counts) (l .strides) (q .gaps) (q .goal)
+  pub part : SplitsAt q l table (r .counts) (l .counts) (l .strides) (l .blocks) (q .gaps) (q .goal)
       (record { size = l .size; weight = weigh (weight q) (take (l .size .kinds) (l .counts)); start = q .start; second = second; forbids = l .forbids }) own
   part = splits g (b .counts-are) (record { jobs-are = b .jobs-are ∙ ap sum (sym (b .counts-are .here)); weight-is = refl }) refl
 

@@ -31,8 +31,8 @@ abbrev pub costUpto : Problem → (s m i : ℕ) → ℕ
 costUpto P s m i = cond (ltb m (alone P i)) (alone P i) (costAt P s i)
 
 -- what the cost of one split is found from: a look at the first cutter's counts k, and what is the same for all splits
-pub record SplitsAt (q : Queue) (l : Layout) (table left counts strides gaps : List ℕ) (goal : ℕ) (b : Bench) (k : JobsLeft) : Type 0 where
-  pub looks : LooksAt q l table left strides gaps (b .forbids) (b .size .block) goal k
+pub record SplitsAt (q : Queue) (l : Layout) (table left counts strides blocks gaps : List ℕ) (goal : ℕ) (b : Bench) (k : JobsLeft) : Type 0 where
+  pub looks : LooksAt q l table left strides blocks gaps (b .forbids) goal k
   pub counts-are : counts ≡ l .counts
   pub size-is : b .size ≡ l .size
   pub weight-is : b .weight ≡ weigh (weight q) (allLeft (problem q))

@@ -46,7 +46,7 @@ pub struct Bench {
 }
 
 // How many of each kind the second cutter has.
-fn others(counts: &[u32], left: &[u32]) -> [u32; 5]
+fn others(counts: &[u32; 5], left: &[u32; 5]) -> [u32; 5]
     requires { ⌜ (length (now counts) ≡ 5) × ((length (now left) ≡ 5) × ((j : ℕ) → j < 5 → getD (now left) j 0 ≤ getD (now counts) j 0)) ⌝ }
     ensures { λ r. ⌜ ((j : ℕ) → j < 5 → getD r j 0 ≡ getD (now (counts .entry)) j 0 - getD (now (left .entry)) j 0) ⌝ }
 {
@@ -62,25 +62,25 @@ fn others(counts: &[u32], left: &[u32]) -> [u32; 5]
 // What the jobs left cost after a row (a kind, or 0 for the cold cutter): the row's own entry where it holds a value, else by a look.
 fn cost_after(
     table: &[u64],
-    left: &[u32],
-    strides: &[usize],
-    gaps: &[u32],
+    left: &[u32; 5],
+    strides: &[usize; 5],
+    blocks: &[usize; 5],
+    gaps: &[u32; 30],
     forbids: bool,
-    block: usize,
     goal: u32,
     k: JobsLeft,
     row: usize,
 ) -> Cost
-    requires { ⌜ ((q : Queue) × (l : Layout) × (LooksAt q l (now table) (now left) (now strides) (now gaps) forbids block goal k × (row ≤ q .kinds))) ⌝ }
-    ensures { λ r. ⌜ ((q : Queue) (l : Layout) → LooksAt q l (now (table .entry)) (now (left .entry)) (now (strides .entry)) (now (gaps .entry)) forbids block goal k → row ≤ q .kinds → r ≡ costIn (q .goal) (stored (costToGo (problem q) row (kAt (problem q) (k .index))))) ⌝ }
+    requires { ⌜ ((q : Queue) × (l : Layout) × (LooksAt q l (now table) (now left) (now strides) (now blocks) (now gaps) forbids goal k × (row ≤ q .kinds))) ⌝ }
+    ensures { λ r. ⌜ ((q : Queue) (l : Layout) → LooksAt q l (now (table .entry)) (now (left .entry)) (now (strides .entry)) (now (blocks .entry)) (now (gaps .entry)) forbids goal k → row ≤ q .kinds → r ≡ costIn (q .goal) (stored (costToGo (problem q) row (kAt (problem q) (k .index))))) ⌝ }
 {
     if 0 < row {
-        let value = table[(row - 1) * block + k.index];
+        let value = table[next_states::state_entry(blocks, k.index, row - 1)];
         if value != next_states::NONE {
             return units::cost_in(goal, value);
         }
     }
-    let found = solver::look(table, left, strides, gaps, forbids, block, goal, k, row);
+    let found = solver::look(table, left, strides, blocks, gaps, forbids, goal, k, row);
     found.cost
 }
 
@@ -88,18 +88,19 @@ fn cost_after(
 // than `most` alone, the others are not looked up.
 fn split_cost(
     table: &[u64],
-    left: &[u32],
-    counts: &[u32],
-    strides: &[usize],
-    gaps: &[u32],
+    left: &[u32; 5],
+    counts: &[u32; 5],
+    strides: &[usize; 5],
+    blocks: &[usize; 5],
+    gaps: &[u32; 30],
     goal: u32,
     bench: Bench,
     k: JobsLeft,
     most: Cost,
 ) -> Cost
-    requires { ⌜ ((q : Queue) × (l : Layout) × SplitsAt q l (now table) (now left) (now counts) (now strides) (now gaps) goal bench k) ⌝ }
+    requires { ⌜ ((q : Queue) × (l : Layout) × SplitsAt q l (now table) (now left) (now counts) (now strides) (now blocks) (now gaps) goal bench k) ⌝ }
     requires { ⌜ most ≡ costIn goal (numberOf most) ⌝ }
-    ensures { λ r. ⌜ ((q : Queue) (l : Layout) → SplitsAt q l (now (table .entry)) (now (left .entry)) (now (counts .entry)) (now (strides .entry)) (now (gaps .entry)) goal bench k → r ≡ costIn (q .goal) (costUpto (problem q) (bench .second) (numberOf most) (k .index))) ⌝ }
+    ensures { λ r. ⌜ ((q : Queue) (l : Layout) → SplitsAt q l (now (table .entry)) (now (left .entry)) (now (counts .entry)) (now (strides .entry)) (now (blocks .entry)) (now (gaps .entry)) goal bench k → r ≡ costIn (q .goal) (costUpto (problem q) (bench .second) (numberOf most) (k .index))) ⌝ }
 {
     let size = bench.size;
     let forbids = bench.forbids;
@@ -107,9 +108,9 @@ fn split_cost(
         table,
         left,
         strides,
+        blocks,
         gaps,
         forbids,
-        size.block,
         goal,
         k,
         bench.start,
@@ -131,9 +132,9 @@ fn split_cost(
         table,
         &rest,
         strides,
+        blocks,
         gaps,
         forbids,
-        size.block,
         goal,
         rest_k,
         row,
@@ -204,6 +205,7 @@ pub fn best_split(queue: Queue, layout: Layout, table: &[u64], second: usize) ->
     let weights = queue.weights;
     let counts = layout.counts;
     let strides = layout.strides;
+    let blocks = layout.blocks;
     let bench = Bench {
         size,
         weight: jobs_left::weight_left(&counts, &weights, size.kinds),
@@ -221,7 +223,18 @@ pub fn best_split(queue: Queue, layout: Layout, table: &[u64], second: usize) ->
     };
     while k.index < size.block {
         let most = best.cost;
-        let cost = split_cost(table, &left, &counts, &strides, &gaps, goal, bench, k, most);
+        let cost = split_cost(
+            table,
+            &left,
+            &counts,
+            &strides,
+            &blocks,
+            &gaps,
+            goal,
+            bench,
+            k,
+            most,
+        );
         if most.less(cost) {
             k = jobs_left::step_left(&mut left, &counts, &weights, size.kinds, k);
         } else {
@@ -262,19 +275,19 @@ fn share_order(
     let gaps = queue.gaps;
     let weights = queue.weights;
     let strides = layout.strides;
+    let blocks = layout.blocks;
     let k = JobsLeft {
         index,
         jobs,
         weight: jobs_left::weight_left(&left, &weights, size.kinds),
     };
-    let block = size.block;
     let first = solver::look(
         table,
         &left,
         &strides,
+        &blocks,
         &gaps,
         layout.forbids,
-        block,
         queue.goal,
         k,
         row,

@@ -24,12 +24,12 @@ impl Seconds {
         Seconds(self.0 + other.0)
     }
 
-    // What so many pupils wait together for that long.
+    // What so many pupils wait together for that long: a product of 32 bits, which every processor multiplies out by itself.
     pub fn weighted(self, weight: u64) -> PupilSeconds
-        requires { ⌜ weight * self .0 < 2 ^ 64 ⌝ }
+        requires { ⌜ (weight < 2 ^ 16) × (self .0 < 2 ^ 16) ⌝ }
         ensures { λ r. ⌜ r .0 ≡ weight * self .0 ⌝ }
     {
-        PupilSeconds(weight * self.0)
+        PupilSeconds((weight as u32 * self.0 as u32) as u64)
     }
 
     pub fn less(self, seconds: Seconds) -> bool

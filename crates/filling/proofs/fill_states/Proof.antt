@@ -1,70 +1,88 @@
--- `filling::fill_states` meets its contract: `KindsUpTo` is the invariant; the kinds left fall.
+-- `filling::fill_states` meets its contract: each way stores what the entries get, whichever problem the table is of.
 -- Assumes nothing.
-use Prim.Native.Nat.{ℕ, suc, _+_, _-_, _*_, _<_}
-use native.Mathlib.Numerals.{add-one}
-use native.Mathlib.Omega.{arith}
-use lib.ListN.{length, getD}
-use Rattle.filling.specs.Filling.{Arrays}
-use Rattle.filling.proofs.States.{entryBy, KindsUpTo, Loaded, kinds-none, state-ready, entry-in, kinds-more, kinds-done}
+use mathlib.Core.Path.{_≡_, sym, ap, _∙_}
+use Rattle.sequencing.specs.Problem.{Problem}
+use Rattle.next_states.specs.NextStates.{noneOf}
+use Rattle.filling.specs.Filling.{Arrays, nextOf, Fillable}
+use Rattle.filling.proofs.States.{storable, stored-same, entry-last, entry-none, entry-value, state-ready}
+use borrow.Author.Tests.{eq-eqb}
 use borrow.Author.Needs.{needs}
 use Rattle.filling.proofs.fill_states.Statement.{statement}
 use Rattle.filling.proofs.fill_states.Tie as tie
 
-abbrev Inv-loop : tie.InvT-loop
-Inv-loop table₀ left strides slots earliest latest gaps forbids goal k kinds block index weight place next feasible₀ kind₀ table feasible kind =
-    KindsUpTo (entryBy (record { left = left; strides = strides; slots = slots; earliest = earliest; latest = latest; gaps = gaps }) next weight (k .jobs) place) kinds block index table₀ table feasible kind
+-- the places: the function's entry, from where the next states are lent and loaded; where they are tested; and each way from its end
+abbrev lent : tie.After-load-next-arg → tie.Start
+lent c = c .before .before .before .before
 
-abbrev μ-loop : tie.MeasureT-loop
-μ-loop table₀ left strides slots earliest latest gaps forbids goal k kinds block index weight place next feasible₀ kind₀ table feasible kind = kinds - kind
+abbrev entry : tie.After-load-next → tie.Start
+entry c = lent (c .before)
 
--- the function's entry, from where the next states were loaded, and a turn's beginning
-abbrev lent : tie.After-shared-slice-known6 Inv-loop μ-loop → tie.Start Inv-loop μ-loop
-lent c = c .before .before .before .before .before .before .before
+abbrev loaded : tie.After-none-next → tie.After-load-next
+loaded c = c .before .before
 
-abbrev weighed : tie.After-load-next Inv-loop μ-loop → tie.After-step-weight Inv-loop μ-loop
-weighed c = c .before .before .before .before
+abbrev last : tie.After-store-last-arg → tie.After-none-next
+last c = c .before .before .before .before
 
-abbrev entry : tie.After-load-next Inv-loop μ-loop → tie.Start Inv-loop μ-loop
-entry c = lent (weighed c .before)
+abbrev none : tie.After-store-none-arg → tie.After-none-next
+none c = c .before .before .before .before
 
-abbrev args : tie.After-load-next Inv-loop μ-loop → Arrays
-args c = let a = entry c .args in record { left = a .left .now; strides = a .strides .now; slots = a .slots .now; earliest = a .earliest .now; latest = a .latest .now; gaps = a .gaps .now }
+abbrev weighed : tie.After-next2 → tie.After-step-weight
+weighed c = c .before .before
 
-loaded : (c : tie.After-load-next Inv-loop μ-loop) → let a = entry c .args in Loaded (a .table .now) (args c) (a .size) (a .goal) (a .k) (c .load-next .result) (weighed c .step-weight .result)
-loaded c = record { fillable = entry c .pre .0; next-is = c .load-next .ensures; weight-is = weighed c .step-weight .ensures }
+abbrev some : tie.After-next2 → tie.After-none-next
+some c = weighed c .before .before
 
-abbrev turn : tie.After-shared-slice-known10 Inv-loop μ-loop → tie.In-loop Inv-loop μ-loop
-turn c = c .before .before .before .before .before
+-- the arrays there, and what filling is given, of one problem or another
+abbrev arrays : tie.Start → Arrays
+arrays c = let a = c .args in record { left = a .left .now; strides = a .strides .now; blocks = a .blocks .now; slots = a .slots .now; places = a .places .now; gaps = a .gaps .now }
 
--- the slot of the kind's job just cut
-in-slot : (c : tie.In-loop Inv-loop μ-loop) → let a : Arrays = args (c .before .before) in
-    let slot : ℕ = getD (a .slots) (c .before .loop .kind) 0 + getD (a .left) (c .before .loop .kind) 0 in
-    (slot < length (a .earliest)) × (slot < length (a .latest))
-in-slot c = entry (c .before .before) .pre .0 .slot-in (suc (c .before .loop .kind)) (omega arith) (c .loop-test .taken)
+abbrev Given : tie.Start → Problem → Type 0
+Given c P = let a = c .args in Fillable P (a .table .now) (arrays c) (a .goal) (a .k) (a .here) (a .kinds)
 
--- the entry of (L; k)
-in-table : (c : tie.In-loop Inv-loop μ-loop) → c .before .loop .kind * entry (c .before .before) .args .size .block + entry (c .before .before) .args .k .index < length (c .before .loop .table)
-in-table c = entry-in (loaded (c .before .before)) (c .before .loop .inv) (c .loop-test .taken)
+-- whether no next state has a value, by the table
+none-is : (c : tie.After-none-next) (P : Problem) → Given (entry (loaded c)) P
+    → let a = entry (loaded c) .args in c .none-next .result ≡ noneOf (nextOf P (a .table .now) (arrays (entry (loaded c))) (a .goal) (a .k) (a .here))
+none-is c P g = c .none-next .ensures ∙ ap noneOf (loaded c .load-next .ensures P (g .running))
 
-state-value-requires : tie.Need-state-value-requires Inv-loop μ-loop
-state-value-requires c κs =
-    let l = turn c .before .before in
-    let (ready, one) = state-ready (loaded l) (turn c .before .loop .kind + 1) (omega arith) (omega (arith, turn c .loop-test .taken)) in
-    (ready, (entry l .pre .1, one))
+load-next-requires : tie.Need-load-next-requires
+load-next-requires c κs = let (P, g) = lent c .pre .0 in (P, (g .running, g .room))
 
-loop-again : tie.Need-loop-again Inv-loop μ-loop
-loop-again c =
-    let t = turn (c .before .before) in
-    rw (c .counted .ensures) (kinds-more (loaded (t .before .before)) (t .before .loop .inv) (t .loop-test .taken) (rw add-one at (c .before .state-value .ensures)))
+store-last-requires : tie.Need-store-last-requires
+store-last-requires c κs = let (P, g) = entry (loaded (last c)) .pre .0 in ((P, storable g), g .slotted)
 
-returns : tie.Need-returns Inv-loop μ-loop
-returns c = kinds-done (loaded (c .before .before)) (c .before .loop .inv) (c .loop-test .left)
+returns : tie.Need-returns
+returns c P g =
+    let end = c .before .before in
+    stored-same (entry-last g (end .before .before .if2 .taken)) (end .store-last .ensures P (storable g))
+
+store-none-requires : tie.Need-store-none-requires
+store-none-requires c κs = let (P, g) = entry (loaded (none c)) .pre .0 in (P, storable g)
+
+returns-2 : tie.Need-returns-2
+returns-2 c P g =
+    let end = c .before .before in
+    let test = none (end .before) in
+    stored-same (entry-none g (end .before .before .if2 .left) (sym (none-is test P g) ∙ end .before .before .before .before .if1 .taken)) (end .store-none .ensures P (storable g))
+
+store-values-requires : tie.Need-store-values-requires
+store-values-requires c κs =
+    let start = entry (loaded (some c)) in
+    let (P, g) = start .pre .0 in
+    let next-is = loaded (some c) .load-next .ensures P (g .running) in
+    let weight-is = weighed c .step-weight .ensures in (
+      ((P, storable g), g .slotted),
+      (state-ready g next-is weight-is, (start .pre .1, λ e. weight-is ∙ rw (eq-eqb (start .args .goal) 1 e))),
+    )
+
+returns-3 : tie.Need-returns-3
+returns-3 c P g =
+    let end = c .before .before in
+    let test = some (end .before) in
+    stored-same
+    (entry-value g (loaded test .load-next .ensures P (g .running)) (weighed (end .before) .step-weight .ensures) (sym (none-is test P g) ∙ weighed (end .before) .before .if1 .left))
+    (end .store-values .ensures P (storable g))
 
 pub fill-states-spec : {M : Type 1} → statement M
 fill-states-spec =
-    tie.close (tie.spec Inv-loop μ-loop (λ c κs. search needs) (λ c. search needs) (λ c κs. search needs) (λ c. kinds-none) (λ c. search needs)
-    (λ c. search needs) (λ c. search needs) (λ c. search needs) (λ c. omega (arith, in-slot (c .before .before)))
-    (λ c. omega (arith, in-slot (c .before .before))) (λ c. search needs) (λ c. search needs) (λ c. in-slot (c .before .before .before .before) .0)
-    (λ c. in-slot (turn c) .1) state-value-requires (λ c. omega (arith, in-table (turn (c .before))))
-    (λ c. omega (arith, in-table (turn (c .before)))) (λ c. omega (arith, in-table (turn (c .before)))) (λ c. in-table (turn (c .before)))
-    (λ c κs. search needs) (λ c. search needs) (λ c. search needs) loop-again (λ c. search needs) returns)
+    tie.close (tie.spec load-next-requires (λ c. search needs) (λ c κs. search needs) store-last-requires (λ c. search needs) returns store-none-requires
+    (λ c. search needs) returns-2 (λ c κs. search needs) (λ c. search needs) store-values-requires (λ c. search needs) returns-3)

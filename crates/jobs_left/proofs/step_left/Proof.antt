@@ -26,7 +26,7 @@ abbrev read : tie.After-shared-slice-known2 Inv-loop μ-loop → tie.In-loop Inv
 read t = t .before .before .before
 
 -- the sums are no larger than at the entry, so that one job more fits
-small : (t : tie.At-loop Inv-loop μ-loop) → (t .loop .jobs < 2 ^ 31) × (t .loop .weight < 2 ^ 63)
+small : (t : tie.At-loop Inv-loop μ-loop) → (t .loop .jobs < 2 ^ 31) × (t .loop .weight < 2 ^ 31)
 small t = let s = entry t .pre .1 .1 .1 .1 .1 in (omega (arith, t .loop .inv .1 .fewer, s), omega (arith, t .loop .inv .1 .lighter, s))
 
 long : (t : tie.At-loop Inv-loop μ-loop) → entry t .args .kinds ≤ length (t .loop .left)
@@ -44,8 +44,8 @@ loop-holds c = (stepping-none, record { sums = c .before .pre .1 .1 .1 .1 .0; fe
 add-left : tie.Need-add-left Inv-loop μ-loop
 add-left c = omega (arith, c .before .shared-slice-known2 .given (turn (read (c .before)) .loop .j))
 
-add-t21 : tie.Need-add-t21 Inv-loop μ-loop
-add-t21 c = omega (arith, small (turn (read (c .before))), c .before .before .shared-slice-known .given (turn (read (c .before)) .loop .j))
+add-t22 : tie.Need-add-t22 Inv-loop μ-loop
+add-t22 c = omega (arith, small (turn (read (c .before))), c .before .before .shared-slice-known .given (turn (read (c .before)) .loop .j))
 
 returns : tie.Need-returns Inv-loop μ-loop
 returns c =
@@ -66,8 +66,8 @@ returns-2 c =
 pub step-left-spec : {M : Type 1} → statement M
 step-left-spec =
     tie.close (tie.spec Inv-loop μ-loop (λ c. search needs) loop-holds (λ c. search needs) (λ c. search needs) (λ c. search needs) (λ c. search needs)
-    (λ c. omega (arith, c .shared-slice-known .given (turn (c .before .before) .loop .j))) (λ c. search needs) (λ c. search needs) add-left
-    (λ c. search needs) (λ c. search needs) (λ c. omega (arith, small (turn (read (c .before))))) add-t21 (λ c. search needs) returns
-    (λ c. few (read (c .before))) (λ c. let t = read (c .before) in omega (arith, few t, small (turn t)))
+    (λ c. search needs) (λ c. search needs) add-left (λ c. search needs) (λ c. search needs) (λ c. omega (arith, small (turn (read (c .before)))))
+    (λ c. omega (arith, c .before .before .shared-slice-known .given (turn (read (c .before)) .loop .j))) add-t22 (λ c. search needs) returns
+    (λ c. few (read (c .before))) (λ c. let t = read (c .before) in omega (arith, light t, small (turn t)))
     (λ c. let t = read (c .before) in omega (arith, light t, small (turn t))) (λ c. light (read (c .before))) (λ c. search needs) (λ c. search needs)
     (λ c. search needs) (λ c. search needs) loop-again (λ c. search needs) returns-2)

@@ -3,7 +3,7 @@
 use Prim.Native.Nat.{_-_}
 use mathlib.Core.Path.{refl}
 use Rattle.next_states.specs.NextStates.{candidate}
-use Rattle.next_states.proofs.Candidates.{candidate-fits, comes-to, small-next, may-follow}
+use Rattle.next_states.proofs.Candidates.{candidate-fits, comes-to, counted-next, may-follow}
 use Rattle.next_states.proofs.Lowest.{Lowest, lowest-none, lowest-held, lowest-more, lowest-done}
 use native.Mathlib.Omega.{arith}
 use borrow.Author.Needs.{needs}
@@ -18,9 +18,9 @@ abbrev μ-loop : tie.MeasureT-loop
 
 -- the places: the function's entry, and the loop's turn, from where kind x's value is read
 abbrev entry : tie.At-loop Inv-loop μ-loop → tie.Start Inv-loop μ-loop
-entry t = t .before .before .before .before
+entry t = t .before .before .before
 
-abbrev turn : tie.After-shared-slice-known3 Inv-loop μ-loop → tie.In-loop Inv-loop μ-loop
+abbrev turn : tie.After-shared-slice-known2 Inv-loop μ-loop → tie.In-loop Inv-loop μ-loop
 turn c = c .before
 
 lower-requires : tie.Need-lower-requires Inv-loop μ-loop
@@ -29,7 +29,7 @@ lower-requires c κs =
     let (ready, rest) = entry (t .before) .pre in
     let a = entry (t .before) .args in (
       (omega (arith, ready .row-in, ready .gaps-long), may-follow (a .next .now) (a .gaps .now) (a .row) (rest .0) (t .before .loop .x) (t .loop-test .taken)),
-      ((rest .1, small-next ready _ (t .loop-test .taken)), lowest-held (t .before .loop .inv) (candidate-fits ready)),
+      ((rest .1, counted-next ready _ (t .loop-test .taken)), lowest-held (t .before .loop .inv) (candidate-fits ready)),
     )
 
 loop-again : tie.Need-loop-again Inv-loop μ-loop

@@ -1,11 +1,11 @@
 -- `next_states::lower` meets its contract.
 -- Assumes nothing.
-use Prim.Native.Nat.{ℕ, _+_, _*_, _-_, _^_}
-use mathlib.Core.Option.{some}
+use Prim.Native.Nat.{ℕ, _+_, _*_}
+use mathlib.Core.Option.{Option, some}
 use mathlib.Core.Path.{_≡_, refl, sym, ap, _∙_}
 use native.Mathlib.Omega.{arith}
 use lib.Dec.{ltb}
-use borrow.Author.Tests.{le-ltb, ltb-true, ltb-false}
+use borrow.Author.Tests.{ltb-true, ltb-false}
 use Rattle.units.specs.Costs.{costIn, numberOf}
 use Rattle.units.proofs.Costs.{number-is, one-unit}
 use Rattle.gaps.specs.Gaps.{gapBetween}
@@ -13,11 +13,12 @@ use Rattle.sequencing.specs.Least.{plusGap}
 use Rattle.sequencing.proofs.Options.{plusGap-none}
 use Rattle.next_states.specs.NextStates.{loaded}
 use Rattle.next_states.proofs.Stored.{loaded-some, loaded-found}
+use Rattle.next_states.proofs.Lowest.{unchanged}
 use Rattle.next_states.proofs.lower.Statement.{statement}
 use Rattle.next_states.proofs.lower.Tie as tie
 
 -- the places: the function's entry and where the gap is looked up, from the comparison; there the kind's own number, and the least so far
-abbrev entry : tie.Else1 → tie.Start
+abbrev entry : tie.After-seconds-after-arg → tie.Start
 entry c = c .before .before
 
 abbrev looked-up : tie.After-less → tie.After-seconds-after
@@ -29,26 +30,32 @@ own c = let a = entry (c .before) .args in a .weight * c .seconds-after .result 
 abbrev so-far : tie.After-seconds-after → ℕ
 so-far c = numberOf (entry (c .before) .args .best .cost)
 
-comes-to : (c : tie.After-seconds-after) → let a = entry (c .before) .args in plusGap (a .weight) (gapBetween (a .gaps .now) (a .row) (a .kind)) (loaded (a .value)) ≡ some (own c)
-comes-to c = rw (c .seconds-after .ensures, loaded-some (entry (c .before) .args .value) (c .before .if1 .left))
+-- what the kind comes to
+abbrev found : tie.Start → Option ℕ
+found e = let a = e .args in plusGap (a .weight) (gapBetween (a .gaps .now) (a .row) (a .kind)) (loaded (a .value))
+
+comes-to : (c : tie.After-seconds-after) → found (entry (c .before)) ≡ some (own c)
+comes-to c = rw (c .seconds-after .ensures, loaded-some (entry (c .before) .args .value) (c .before .before .if1 .left))
 
 compared : (c : tie.After-less) → c .less .result ≡ ltb (own (looked-up c)) (so-far (looked-up c))
 compared c = rw (number-is _ _ (c .before .step-cost .ensures)) at (c .less .ensures)
 
 returns : tie.Need-returns
 returns c =
-    let e = c .before .before in
+    let e = c .before in
     let (unit, fits) = e .pre .1 .1 in
     let a = e .args in
-    let n = numberOf (a .best .cost) in
-    rw (c .if1 .taken, plusGap-none (a .weight) (gapBetween (a .gaps .now) (a .row) (a .kind)))
-    (unit ∙ ap (costIn (a .goal)) (omega arith), rw (le-ltb (2 ^ 64 - 1) n (omega arith)))
+    unchanged (a .goal) (found e) (a .kind) (rw (c .if1 .taken) (plusGap-none (a .weight) (gapBetween (a .gaps .now) (a .row) (a .kind)))) unit fits
 
 seconds-after-requires : tie.Need-seconds-after-requires
-seconds-after-requires c κs = let p = entry c .pre .0 in (p .0, p .1 (loaded-found (entry c .args .value) (c .if1 .left)))
+seconds-after-requires c κs = let p = entry c .pre .0 in (p .0, p .1 (loaded-found (entry c .args .value) (c .before .if1 .left)))
 
 step-cost-requires : tie.Need-step-cost-requires
-step-cost-requires c κs = let p = entry (c .before) .pre .1 .0 in (p .0, omega (arith, p .1 (own c) (comes-to c)))
+step-cost-requires c κs =
+    let e = entry (c .before) in
+    let (one, counted) = e .pre .1 .0 in
+    let short = counted .short (c .seconds-after .result) (loaded-found (e .args .value) (c .before .before .if1 .left)) (c .seconds-after .ensures) in
+    (one, (counted .light, (short, omega (arith, counted .small (own c) (comes-to c)))))
 
 returns-2 : tie.Need-returns-2
 returns-2 c =

@@ -9,7 +9,7 @@ use Rattle.next_states.proofs.step_cost.Tie as tie
 plus-requires : tie.Need-plus-requires
 plus-requires c κs =
     let one = c .before .pre .0 (c .if1 .taken) in
-    let fits = rw one at (c .before .pre .1) in
+    let fits = rw one at (c .before .pre .1 .1 .1) in
     omega arith
 
 returns : tie.Need-returns

@@ -4,8 +4,9 @@ use Prim.Native.Nat.{_-_, _≤_, _<_}
 use mathlib.Core.Path.{_≡_, sym}
 use native.Mathlib.Omega.{arith}
 use lib.ListN.{length, getD}
-use Rattle.layout.proofs.Prepared.{begins-long, jobs-long, strides-long}
-use Rattle.filling.proofs.Values.{Look}
+use Rattle.problem.specs.OfQueue.{problem}
+use Rattle.layout.proofs.Prepared.{begins-long, jobs-long}
+use Rattle.filling.proofs.Values.{Look, running}
 use Rattle.solver.proofs.Looking.{few-left, may-weigh, weighed, whole, may-look, looked}
 use Rattle.solver.proofs.Following.{Following, Turn, follow-none, follow-done, takes-now, job-left, left-within, job-there, stride-within, weight-within, left-then, weighs-then, follow-more}
 use borrow.Author.Needs.{needs}
@@ -13,18 +14,18 @@ use Rattle.solver.proofs.follow.Statement.{statement}
 use Rattle.solver.proofs.follow.Tie as tie
 
 abbrev Inv-loop : tie.InvT-loop
-Inv-loop queue table index first places upto size gaps weights jobs begins strides forbids order₀ left₀ weight₀ kind₀ at₀ place₀ order left weight kind at place =
+Inv-loop queue table index first places upto gaps weights jobs begins strides blocks forbids order₀ left₀ weight₀ kind₀ at₀ place₀ order left weight kind at place =
     Following queue upto index first places order left weight kind at place
 
 abbrev μ-loop : tie.MeasureT-loop
-μ-loop queue table index first places upto size gaps weights jobs begins strides forbids order₀ left₀ weight₀ kind₀ at₀ place₀ order left weight kind at place = places - place
+μ-loop queue table index first places upto gaps weights jobs begins strides blocks forbids order₀ left₀ weight₀ kind₀ at₀ place₀ order left weight kind at place = places - place
 
 -- the places: the function's entry, a turn, and the turn with its job taken
 abbrev copied : tie.After-begins Inv-loop μ-loop → tie.Start Inv-loop μ-loop
 copied c = c .before .before .before .before .before .before
 
 abbrev entry : tie.At-loop Inv-loop μ-loop → tie.Start Inv-loop μ-loop
-entry c = copied (c .before .before .before .before .before)
+entry c = copied (c .before .before .before .before .before .before)
 
 abbrev turn : tie.In-loop Inv-loop μ-loop → tie.At-loop Inv-loop μ-loop
 turn c = c .before
@@ -36,7 +37,7 @@ abbrev taken : tie.After-left3 Inv-loop μ-loop → tie.In-loop Inv-loop μ-loop
 taken c = taking (c .before .before)
 
 abbrev looking : tie.After-step-weight Inv-loop μ-loop → tie.After-left3 Inv-loop μ-loop
-looking c = c .before .before .before .before
+looking c = c .before .before .before .before .before
 
 -- the arrays of the queue (the parameter `upto` is `t5`)
 sized : (c : tie.Start Inv-loop μ-loop) → (length (c .args .queue .weights) ≡ 5) × ((length (c .args .queue .gaps) ≡ 30) × (length (c .args .t5) ≡ 5))
@@ -61,11 +62,11 @@ look c =
     whole (e .pre .0 .valid) (e .pre .0 .prepared) (left-then (turn-of (taken c)) (c .before .take-job .ensures .1)) (sized e .1 .0) (e .pre .1 .0) (e .pre .1 .1)
 
 weight-left-requires : tie.Need-weight-left-requires Inv-loop μ-loop
-weight-left-requires c κs = let e = copied (c .before .before .before) in may-weigh (e .pre .0 .valid) (e .pre .0 .prepared) (e .pre .0 .left-is) (sized e .0)
+weight-left-requires c κs = let e = copied (c .before .before .before .before) in may-weigh (e .pre .0 .valid) (e .pre .0 .prepared) (e .pre .0 .left-is) (sized e .0)
 
 loop-holds : tie.Need-loop-holds Inv-loop μ-loop
 loop-holds c =
-    let s = copied (c .before .before .before .before) .pre .0 in
+    let s = copied (c .before .before .before .before .before) .pre .0 in
     follow-none s (weighed (s .valid) (s .prepared) (s .left-is) (c .weight-left .ensures))
 
 slice-aggregate-take-job-3 : tie.Need-slice-aggregate-take-job-3 Inv-loop μ-loop
@@ -84,9 +85,6 @@ take-job-requires c κs =
 cast-weight : tie.Need-cast-weight Inv-loop μ-loop
 cast-weight c = let t = turn-of (taken c) in omega (arith, t .share .valid .weights _ (takes-now t .low) (takes-now t .high))
 
-slice-aggregate-best-next-2 : tie.Need-slice-aggregate-best-next-2 Inv-loop μ-loop
-slice-aggregate-best-next-2 c = let t = turn-of (taken (c .before .before)) in sym (strides-long (t .share .valid) (t .share .prepared))
-
 best-next-requires : tie.Need-best-next-requires Inv-loop μ-loop
 best-next-requires c κs =
     let t = turn-of (taken (looking c)) in
@@ -97,16 +95,15 @@ loop-again c =
     let d = looking (c .before) in
     let t = turn-of (taken d) in
     let fewer = d .before .take-job .ensures .1 in
-    follow-more t fewer (d .before .take-job .ensures .0) (looked (look d) (weighs-then t fewer) (c .before .step-weight .ensures) _ (c .best-next .ensures))
+    follow-more t fewer (d .before .take-job .ensures .0) (looked (look d) (weighs-then t fewer) (c .before .step-weight .ensures) _ (c .best-next .ensures (problem (entry (turn (taken d)) .args .queue)) (running (look d))))
 
 pub follow-spec : {M : Type 1} → statement M
 follow-spec =
-    tie.close (tie.spec Inv-loop μ-loop (λ c. search needs) (λ c. sym (sized (copied (c .before .before .before)) .0)) weight-left-requires loop-holds
+    tie.close (tie.spec Inv-loop μ-loop (λ c. search needs) (λ c. sym (sized (copied (c .before .before .before .before)) .0)) weight-left-requires loop-holds
     (λ c. search needs) (λ c. search needs) slice-aggregate-take-job-3 slice-aggregate-take-job-4 (λ c. kind-in (taking c) .0) take-job-requires
     (λ c. place-in (taken c)) (λ c. kind-in (taken c) .0) (λ c. record { fits = omega (arith, kind-in (taken c)) })
     (λ c. omega (arith, kind-in (taken c))) (λ c. stride-within (turn-of (taken c))) (λ c. kind-in (taken c) .0)
     (λ c. record { fits = omega (arith, kind-in (taken c)) }) (λ c. omega (arith, kind-in (taken c))) cast-weight
-    (λ c. weight-within (turn-of (taken c))) (λ c. search needs) slice-aggregate-best-next-2
-    (λ c. sym (sized (entry (turn (taken (c .before .before .before)))) .1 .0)) (λ c κs. search needs) best-next-requires
+    (λ c. weight-within (turn-of (taken c))) (λ c κs. search needs) best-next-requires
     (λ c. record { fits = omega (arith, place-in (taken (looking (c .before)))) }) (λ c. search needs) loop-again
     (λ c. follow-done (c .before .loop .inv) (c .loop-test .left)))

@@ -7,7 +7,7 @@ use borrow.Author.Needs.{needs}
 use Rattle.units.specs.Costs.{costIn, numberOf}
 use Rattle.problem.specs.OfQueue.{problem}
 use Rattle.jobs_left.specs.Steps.{LeftAt}
-use Rattle.layout.proofs.Prepared.{counts-long, strides-long}
+use Rattle.layout.proofs.Prepared.{counts-long}
 use Rattle.filling.proofs.Counting.{left-here, may-step}
 use Rattle.solver.proofs.Looking.{may-weigh}
 use Rattle.solver.proofs.Start.{start-left}
@@ -18,14 +18,14 @@ use Rattle.split_search.proofs.best_split.Statement.{statement}
 use Rattle.split_search.proofs.best_split.Tie as tie
 
 abbrev Inv-loop : tie.InvT-loop
-Inv-loop queue table second size gaps weights counts strides bench left₀ goal best₀ k₀ left best k = Searching queue second left best k
+Inv-loop queue table second size gaps weights counts strides blocks bench left₀ goal best₀ k₀ left best k = Searching queue second left best k
 
 abbrev μ-loop : tie.MeasureT-loop
-μ-loop queue table second size gaps weights counts strides bench left₀ goal best₀ k₀ left best k = size .block - k .index
+μ-loop queue table second size gaps weights counts strides blocks bench left₀ goal best₀ k₀ left best k = size .block - k .index
 
 -- the places: the function's entry, where all jobs are weighed, and with their weight
 abbrev copied : tie.After-weights2 Inv-loop μ-loop → tie.Start Inv-loop μ-loop
-copied c = c .before .before .before .before .before .before .before .before
+copied c = c .before .before .before .before .before .before .before .before .before
 
 abbrev weighed : tie.After-no-split Inv-loop μ-loop → tie.After-weight-left Inv-loop μ-loop
 weighed c = c .before .before
@@ -38,7 +38,7 @@ abbrev entry : tie.Then1 Inv-loop μ-loop → tie.Start Inv-loop μ-loop
 entry c = copied (weighed (loop c .before) .before)
 
 abbrev lent : tie.After-gaps2 Inv-loop μ-loop → tie.Then1 Inv-loop μ-loop
-lent c = c .before .before .before .before
+lent c = c .before .before .before .before .before
 
 abbrev costed : tie.After-split-cost Inv-loop μ-loop → tie.Then1 Inv-loop μ-loop
 costed c = lent (c .before)
@@ -64,7 +64,7 @@ here c = let g = given (entry c) in left-here (g .valid) (g .prepared) (loop c .
 
 -- what the cost of a turn's split is found from
 splitting : (c : tie.Then1 Inv-loop μ-loop) → let a = entry c .args in
-    SplitsAt (a .queue) (a .layout) (a .table .now) (loop c .loop .left) (a .layout .counts) (a .layout .strides) (a .queue .gaps) (a .queue .goal)
+    SplitsAt (a .queue) (a .layout) (a .table .now) (loop c .loop .left) (a .layout .counts) (a .layout .strides) (a .layout .blocks) (a .queue .gaps) (a .queue .goal)
     (record { size = a .layout .size; weight = weighed (loop c .before) .weight-left .result; start = a .queue .start; second = a .second; forbids = a .layout .forbids }) (loop c .loop .k)
 splitting c = splits (given (entry c)) (here c) (loop c .loop .inv .counting .summed) (weighed (loop c .before) .weight-left .ensures)
 
@@ -123,18 +123,15 @@ loop-again-2 c =
 returns : tie.Need-returns Inv-loop μ-loop
 returns c = let s = c .before .before .before in search-done (given (copied (weighed (s .before) .before))) (s .loop .inv) (c .if1 .left)
 
--- the arrays that are lent in a turn
+-- the arrays that are lent as slices in a turn
 abbrev arrays : (c : tie.Then1 Inv-loop μ-loop) → let l = entry c .args .layout in
-    (5 ≡ length (l .counts)) × (5 ≡ length (l .strides)) × (30 ≡ length (entry c .args .queue .gaps)) × (5 ≡ length (entry c .args .queue .weights))
-arrays c =
-    let g = given (entry c) in
-    (sym (counts-long (g .valid) (g .prepared)), sym (strides-long (g .valid) (g .prepared)), sym (g .gaps-long), sym (g .weights-long))
+    (5 ≡ length (l .counts)) × (5 ≡ length (entry c .args .queue .weights))
+arrays c = let g = given (entry c) in (sym (counts-long (g .valid) (g .prepared)), sym (g .weights-long))
 
 pub best-split-spec : {M : Type 1} → statement M
 best-split-spec =
     tie.close (tie.spec Inv-loop μ-loop (λ c. search needs) (λ c. search needs) weight-left-requires (λ c. search needs) (λ c κs. search needs) loop-holds
-    (λ c. sym (here (c .before) .long)) (λ c. arrays (c .before .before) .0) (λ c. arrays (c .before .before .before) .1) (λ c. arrays (lent c) .2)
     split-cost-requires less-requires (λ c. sym (here (costed (dear (c .before))) .long)) (λ c. arrays (costed (dear (c .before .before))) .0)
-    (λ c. arrays (costed (dear (passed c))) .3) step-left-requires (λ c. search needs) loop-again (λ c. search needs)
+    (λ c. arrays (costed (dear (passed c))) .1) step-left-requires (λ c. search needs) loop-again (λ c. search needs)
     first-of-requires (λ c. sym (here (costed (cheap (c .before))) .long)) (λ c. arrays (costed (cheap (c .before .before))) .0)
-    (λ c. arrays (costed (cheap (compared c))) .3) step-left-requires-2 (λ c. search needs) loop-again-2 returns)
+    (λ c. arrays (costed (cheap (compared c))) .1) step-left-requires-2 (λ c. search needs) loop-again-2 returns)

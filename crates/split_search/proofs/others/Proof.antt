@@ -15,7 +15,7 @@ abbrev μ-loop : tie.MeasureT-loop
 μ-loop counts left rest₀ j₀ rest j = 5 - j
 
 -- a turn, from where both counts are read
-abbrev turn : tie.After-shared-slice-known2 Inv-loop μ-loop → tie.In-loop Inv-loop μ-loop
+abbrev turn : tie.After-rest2 Inv-loop μ-loop → tie.In-loop Inv-loop μ-loop
 turn c = c .before .before
 
 sub-rest : tie.Need-sub-rest Inv-loop μ-loop

@@ -1,11 +1,10 @@
 -- `split_search::share_order` meets its contract: a look for the first kind, then the table is followed.
 -- Assumes nothing.
-use mathlib.Core.Path.{_≡_, sym}
+use mathlib.Core.Path.{_≡_}
 use lib.ListN.{length}
 use borrow.Author.Needs.{needs}
 use Rattle.sequencing.specs.Entries.{kAt}
 use Rattle.problem.specs.OfQueue.{problem}
-use Rattle.layout.proofs.Prepared.{strides-long}
 use Rattle.solver.specs.Looking.{LookedUp}
 use Rattle.solver.proofs.Looking.{may-weigh}
 use Rattle.split_search.proofs.Shares.{share-looks, as-share, share-followed}
@@ -14,13 +13,10 @@ use Rattle.split_search.proofs.share_order.Tie as tie
 
 -- the places: the function's entry, with the weight of what is left, and with the look
 abbrev entry : tie.After-weights2 → tie.Start
-entry c = c .before .before .before .before .before .before .before
-
-abbrev lent : tie.After-left2 → tie.Start
-lent c = entry (c .before .before)
+entry c = c .before .before .before .before .before .before .before .before
 
 abbrev weighed : tie.After-gaps2 → tie.After-weight-left
-weighed c = c .before .before .before
+weighed c = c .before .before .before .before
 
 abbrev start : tie.After-look → tie.Start
 start c = entry (weighed (c .before) .before)
@@ -51,6 +47,4 @@ returns c = share-followed (start (c .before) .pre .0) (found (c .before)) (c .f
 
 pub share-order-spec : {M : Type 1} → statement M
 share-order-spec =
-    tie.close (tie.spec (λ c. search needs) (λ c. search needs) weight-left-requires (λ c. search needs)
-    (λ c. let s = lent (c .before) .pre .0 in sym (strides-long (s .valid) (s .prepared))) (λ c. sym (sized (lent (c .before .before)) .1)) look-requires
-    follow-requires returns)
+    tie.close (tie.spec (λ c. search needs) (λ c. search needs) weight-left-requires look-requires follow-requires returns)

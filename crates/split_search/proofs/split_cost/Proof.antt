@@ -20,7 +20,7 @@ use Rattle.split_search.proofs.split_cost.Tie as tie
 
 -- the places: the function's entry, the first cutter's cost, where it has one, the others' counts, and the second's cost
 abbrev entry : tie.After-size → tie.Start
-entry c = c .before .before .before .before .before .before
+entry c = c .before .before
 
 abbrev compared : tie.Else2 → tie.Else1
 compared c = c .before .before
@@ -39,7 +39,7 @@ again c = lent (c .before)
 
 -- a queue whose arrays these are
 abbrev Of : (q : Queue) (l : Layout) (c : tie.Start) → Type 0
-Of q l c = let a = c .args in SplitsAt q l (a .table .now) (a .left .now) (a .counts .now) (a .strides .now) (a .gaps .now) (a .goal) (a .bench) (a .k)
+Of q l c = let a = c .args in SplitsAt q l (a .table .now) (a .left .now) (a .counts .now) (a .strides .now) (a .blocks .now) (a .gaps .now) (a .goal) (a .bench) (a .k)
 
 cost-after-requires : tie.Need-cost-after-requires
 cost-after-requires c κs = let (q, l, s) = entry c .pre .0 in (q, l, (s .looks, start-in s))
@@ -123,5 +123,5 @@ split-cost-spec =
     returns-2 others-requires (λ c. let (q, l, s) = start (c .before .before) .pre .0 in sums-within s .0)
     (λ c. let (q, l, s) = start (c .before .before .before) .pre .0 in sums-within s .1)
     (λ c. let (q, l, s) = start (c .before .before .before .before .before) .pre .0 in sums-within s .2)
-    (λ c. let (q, l, s) = start (c .before .before .before .before .before .before .before) .pre .0 in sums-within s .3) (λ c. search needs) cost-after-requires-2
+    (λ c. let (q, l, s) = start (c .before .before .before .before .before .before .before) .pre .0 in sums-within s .3) cost-after-requires-2
     (λ c κs. search needs) (λ c κs. search needs) returns-3 together-requires returns-4)

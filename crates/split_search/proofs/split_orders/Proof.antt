@@ -63,6 +63,6 @@ returns c =
 
 pub split-orders-spec : {M : Type 1} → statement M
 split-orders-spec =
-    tie.close (tie.spec (λ c. search needs) (λ c. search needs) others-requires (λ c. search needs) share-order-requires
+    tie.close (tie.spec others-requires (λ c. search needs) share-order-requires
     (λ c. sums (start (followed (c .before))) .0) (λ c. sums (start (followed (c .before))) .1)
     (λ c. sums (start (followed (c .before .before))) .2) share-order-requires-2 returns)
