@@ -1,7 +1,7 @@
 -- The entries of all states with one k, as a loop over the kinds stores them.
 -- Assumes nothing.
 use Prim.Native.Nat.{ℕ, suc, _+_, _-_, _*_, _/_, _<_, _≤_}
-use mathlib.Core.Bool.{Bool, true, false, cond}
+use mathlib.Core.Bool.{Bool, true, false}
 use mathlib.Core.List.{List, map}
 use mathlib.Core.Logic.{_≢_}
 use mathlib.Core.Option.{Option, none, some}
@@ -10,7 +10,6 @@ use native.Mathlib.Numerals.{add-one}
 use native.Mathlib.Nat.{lt-of-lt-of-le}
 use native.Mathlib.Omega.{arith}
 use lib.Arith.{digits-lt, digits-div}
-use lib.Dec.{eqb}
 use lib.ListN.{length, getD, set, length-set}
 use lib.Seq.{getD-set-same, getD-set-other}
 use borrow.Author.Count.{below-more}
@@ -28,7 +27,7 @@ use Rattle.next_states.specs.NextStates.{loaded, noneOf, candidate, Ready}
 use Rattle.next_states.proofs.Numbers.{number-at}
 use Rattle.next_states.proofs.Stored.{Fits, fits-only, fits-least, loaded-stored}
 use Rattle.next_states.proofs.Candidates.{candidate-fits, loaded-next, length-next, none-least, none-of}
-use Rattle.filling.specs.Filling.{valueBy, Storable, StatesStored, Slotted, inPlace, Arrays, nextOf, weightOf, entryFrom, Fillable}
+use Rattle.filling.specs.Filling.{valueBy, Storable, StatesStored, inPlace, Arrays, nextOf, weightOf, entryFrom, Fillable}
 
 -- an entry stands in one block
 same-block : (block l m i : ℕ) → i < block → l * block + i ≡ m * block + i → l ≡ m

@@ -38,8 +38,8 @@ pub fn step_weight(goal: u32, weight: u64) -> u64
     weight
 }
 
-// Steps to the counts whose index is one more, with their sums.
-pub fn step_left(
+// The same with a carry: kinds that have all their jobs left start again, and the first that has not gets one more.
+fn carry_left(
     left: &mut [u32],
     counts: &[u32],
     weights: &[u32],
@@ -77,4 +77,32 @@ pub fn step_left(
         jobs,
         weight,
     }
+}
+
+// Steps to the counts whose index is one more, with their sums. Most steps add one job of the first kind; the others carry.
+pub fn step_left(
+    left: &mut [u32],
+    counts: &[u32],
+    weights: &[u32],
+    kinds: usize,
+    k: JobsLeft,
+) -> JobsLeft
+    requires { ⌜ (kinds ≤ 5) × ((length (now left) ≡ 5) × ((length (now counts) ≡ 5) × ((length (now weights) ≡ 5) × (Summed (now weights) (take kinds (now left)) (k .jobs) (k .weight) × ((k .jobs < 2 ^ 31) × ((k .weight < 2 ^ 31) × (k .index < 2 ^ 63))))))) ⌝ }
+    ensures { λ _. ⌜ take kinds (now (left .exit)) ≡ next (take kinds (now (counts .entry))) (take kinds (now (left .entry))) ⌝ }
+    ensures { λ _. ⌜ drop kinds (now (left .exit)) ≡ drop kinds (now (left .entry)) ⌝ }
+    ensures { λ r. ⌜ Summed (now (weights .entry)) (take kinds (now (left .exit))) (r .jobs) (r .weight) ⌝ }
+    ensures { λ r. ⌜ r .index ≡ k .index + 1 ⌝ }
+{
+    if 0 < kinds {
+        let n = left[0];
+        if n < counts[0] {
+            left[0] = n + 1;
+            return JobsLeft {
+                index: k.index + 1,
+                jobs: k.jobs + 1,
+                weight: k.weight + weights[0] as u64,
+            };
+        }
+    }
+    carry_left(left, counts, weights, kinds, k)
 }

@@ -29,10 +29,6 @@ pub fits-only : (b : Bool) (r : Option ℕ) → Fits r → Fits (only b r)
 fits-only true r h = h
 fits-only false r h = tt
 
-pub fits-cond : (b : Bool) (r s : Option ℕ) → Fits r → Fits s → Fits (cond b r s)
-fits-cond true r s h k = h
-fits-cond false r s h k = k
-
 fits-some : (r : Option ℕ) (c : ℕ) → Fits r → r ≡ some c → c < 2 ^ 64 - 1
 fits-some r c h e = rw e at h
 

@@ -1,9 +1,8 @@
 -- `filling::store_last` meets its contract: `KindsUpTo` is the invariant, whichever problem the table is of; the kinds left fall.
 -- Assumes nothing.
-use Prim.Native.Nat.{ℕ, suc, _+_, _-_, _^_, _<_}
+use Prim.Native.Nat.{suc, _+_, _-_, _^_, _<_}
 use mathlib.Core.Option.{some}
-use mathlib.Core.Path.{_≡_, sym, _∙_}
-use native.Mathlib.Numerals.{add-one}
+use mathlib.Core.Path.{_≡_}
 use native.Mathlib.Omega.{arith}
 use lib.ListN.{length, getD}
 use Rattle.sequencing.specs.Problem.{Problem}

@@ -1,6 +1,6 @@
 -- `filling::store_none` meets its contract: `KindsUpTo` is the invariant, whichever problem the table is of; the kinds left fall.
 -- Assumes nothing.
-use Prim.Native.Nat.{suc, _-_, _<_}
+use Prim.Native.Nat.{_-_, _<_}
 use mathlib.Core.Option.{none}
 use mathlib.Core.Path.{_≡_, refl}
 use native.Mathlib.Omega.{arith}
