@@ -1,1 +1,2 @@
 // Document 01's cases, collected: only definitions, in specs/.
+#![tactic(auto)]

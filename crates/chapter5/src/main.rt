@@ -1,4 +1,5 @@
 // Plans the example of the source's chapter 5 at shifts 0, 5 and 14 under both goals; prints each plan's cost, kept count and order.
+#![tactic(auto)]
 use libc::STDOUT_FILENO;
 use plan::Plan;
 use queue::Queue;

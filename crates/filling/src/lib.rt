@@ -1,4 +1,5 @@
 // Filling the table of a queue: every state's value, and how many states are feasible.
+#![tactic(auto)]
 ghost use Rattle.std.specs.Prelude.{false, ◌≡◌, ℕ, ◌+◌, ◌-◌, ◌^◌, ◌≤◌, ◌<◌, length};
 ghost use Rattle.std.proofs.Math.Option.{none, some};
 ghost use Rattle.gaps.specs.Gaps.{has_never};

@@ -1,1 +1,2 @@
 // What reading and writing plans promise together. No code.
+#![tactic(auto)]

@@ -1,4 +1,5 @@
 // Plans the queue message on standard input, and prints the plan place by place, or the refusal.
+#![tactic(auto)]
 use libc::STDOUT_FILENO;
 use plan::Plan;
 use plan_lines::Line;

@@ -2,7 +2,7 @@
 -- Assumes nothing.
 use mathlib.Core.List.{List, ◌∷◌}
 use mathlib.Core.Logic.{inl, inr}
-use mathlib.Core.Path.{◌≡◌}
+use mathlib.Core.Path.{◌≡◌, ap}
 use Prim.Native.Nat.{ℕ, ◌≤◌}
 use native.Mathlib.Nat.{eq-zero-or-pos}
 use native.Mathlib.Omega.{arith}
@@ -13,7 +13,7 @@ use Rattle.sequencing.proofs.Counting.{one_cases, from_in, from_le, double, sum_
 
 at_most_one : (z n y : ℕ) → count z (upto n) ≡ 0 → count y (z ∷ upto n) ≤ 1
 unfolding count
-at_most_one z n y e = elim (one_cases y z) [ inl q ↦ rw q.0 (omega (arith, rw q.0 at q.1)) | inr q ↦ omega (arith, from_le y 1 n) ]
+at_most_one z n y e = elim (one_cases y z) [ inl q ↦ omega (arith, q.1, ap (λ (v : ℕ). count v (upto n)) q.0) | inr q ↦ omega (arith, from_le y 1 n) ]
 
 module _ (P : Problem) where
   pub order_counts : (o : List ℕ) → IsOrder P o → (z : ℕ) → count z o ≡ count z (upto (T P))

@@ -1,4 +1,5 @@
 // The split plan's message: its record. It is written only; its writer is `split_writer`.
+#![tactic(auto)]
 
 // The jobs of one cutter. Jobs have the numbers of the queue's message, and places count from 1; what stands past `jobs` means nothing.
 #[derive(Drop)]
