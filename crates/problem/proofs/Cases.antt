@@ -26,6 +26,7 @@ last_exchanged f = ((λ x. go (f.0 x)), (λ m. f.1 (go m)))
     go (Memᴰ.head e) = Memᴰ.head e
     go (Memᴰ.tail (Memᴰ.head e)) = Memᴰ.tail (Memᴰ.tail (Memᴰ.head e))
     go (Memᴰ.tail (Memᴰ.tail (Memᴰ.head e))) = Memᴰ.tail (Memᴰ.head e)
+    go (Memᴰ.tail (Memᴰ.tail (Memᴰ.tail x))) = elim x [ ]
 
 pub cases : Cases
 unfolding plan_cost plan_kinds plan_order feasible_states value to_go choice walk by_hand_in least arg_least W all_left jobs_of sum weigh filter from count size digits entry_kind entry_left cost finishes makespan weighted_completion tabulate placed allowed permitted_orders flat_map

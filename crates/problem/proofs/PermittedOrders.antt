@@ -33,6 +33,7 @@ from_has z i (suc n) l u = elim (one_cases z i) [ inl e ↦ Memᴰ.head e.0 | in
 
 flat_map_has : {A B : Type 0} (f : A → List B) (a : A) (b : B) (xs : List A) → Memᴰ a xs → Memᴰ b (f a) → Memᴰ b (flat_map f xs)
 unfolding flat_map
+flat_map_has f a b [] x m = elim x [ ]
 flat_map_has f a b (x ∷ xs) (Memᴰ.head e) m = Memᴰ.append_left _ (rw e at m)
 flat_map_has f a b (x ∷ xs) (Memᴰ.tail t) m = Memᴰ.append_right (f x) (flat_map_has f a b xs t m)
 
