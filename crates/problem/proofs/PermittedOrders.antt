@@ -54,6 +54,7 @@ passing p (o ∷ os) = cond (p o) (o ∷ passing p os) (passing p os)
 
 passing_has : (p : List ℕ → Bool) (o : List ℕ) (os : List (List ℕ)) → Memᴰ o os → Is (p o) → Memᴰ o (passing p os)
 unfolding passing
+passing_has p o [] x t = elim x [ ]
 passing_has p o (x ∷ os) (Memᴰ.head s) t = elim (dichotomy (p x)) [ inr e ↦ rw e (Memᴰ.head s) | inl e ↦ absurd (rw (s, e) at t) ]
 passing_has p o (x ∷ os) (Memᴰ.tail m) t = elim (dichotomy (p x)) [
   | inr e ↦ rw e (Memᴰ.tail (passing_has p o os m t))
