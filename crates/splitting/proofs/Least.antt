@@ -27,8 +27,13 @@ within_after a c n cs w = record { long = omega arith; each = after a c n cs w.e
 within_cons : (a c : ℕ) (n cs : List ℕ) → a ≤ c → Within cs n → Within (c ∷ cs) (a ∷ n)
 within_cons a c n cs h w = record {
   long = omega (arith, w.long);
-  each = elim [ zero ↦ omega arith | suc j ↦ (elim j [ zero ↦ h | suc i ↦ w.each (suc i) ]) ];
+  each = go;
 }
+  where
+    go : (j : ℕ) → at (a ∷ n) j ≤ at (c ∷ cs) j
+    go zero = omega arith
+    go (suc zero) = h
+    go (suc (suc i)) = w.each (suc i)
 
 -- no counts cost less
 pub least_below : (f : List ℕ → Option ℕ) (cs m : List ℕ) (d : ℕ) → Within cs m → Upto d (f m) → Upto d (least_cost f cs)
