@@ -7,7 +7,7 @@ ghost use Rattle.fields.specs.Lists.{stands_in};
 use refusal::Reason;
 
 // What reading a judged number finds.
-#[derive(Drop)]
+#[derive(Clone, Copy)]
 pub enum Field {
     // The number, and the position behind its last byte.
     Value { value: u32, next: usize },
@@ -15,7 +15,7 @@ pub enum Field {
 }
 
 // How a part of a message ends.
-#[derive(Drop)]
+#[derive(Clone, Copy)]
 pub enum Outcome {
     // Nothing was refused; the position behind the part.
     Next(usize),

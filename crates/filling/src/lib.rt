@@ -19,7 +19,7 @@ use layout::{Layout, Size};
 use queue::Queue;
 
 // A state's value, NONE where it is not feasible, and the count with it.
-#[derive(Drop)]
+#[derive(Clone, Copy)]
 struct State {
     value: u64,
     feasible: u64,

@@ -7,7 +7,7 @@ ghost use Rattle.gaps.specs.Gaps.{gap_row, gap_index, gap_between, has_never};
 use units::Seconds;
 
 // 02's gap: seconds, or never, where the succession is forbidden.
-#[derive(Drop)]
+#[derive(Clone, Copy)]
 pub enum Gap {
     Lasting(Seconds),
     Never,

@@ -5,7 +5,7 @@ ghost use Rattle.sequencing.specs.Lists.{weigh};
 ghost use Rattle.jobs_left.specs.Steps.{next, Summed};
 
 // One k beside its counts: its part of the entry number, the jobs left, and their weight.
-#[derive(Drop)]
+#[derive(Clone, Copy)]
 pub struct JobsLeft {
     pub index: usize,
     pub jobs: u32,

@@ -14,7 +14,7 @@ ghost use Rattle.layout.specs.Prepared.{by_kind, begin_of, by_slot, slot_of, ear
 use queue::Queue;
 
 // 01's N, T and P.
-#[derive(Drop)]
+#[derive(Clone, Copy)]
 pub struct Size {
     pub kinds: usize,
     pub jobs: u32,
@@ -22,7 +22,7 @@ pub struct Size {
 }
 
 // What is prepared once a call.
-#[derive(Drop)]
+#[derive(Clone, Copy)]
 pub struct Layout {
     pub size: Size,
     // K_1 .. K_N, then 0.

@@ -20,7 +20,7 @@ use units::{Cost, PupilSeconds, Seconds};
 pub const NONE: u64 = 18446744073709551615;
 
 // The least cost over the kinds, NONE of its unit where there is none, and the smallest kind that reaches it.
-#[derive(Drop)]
+#[derive(Clone, Copy)]
 pub struct Least {
     pub cost: Cost,
     pub kind: usize,

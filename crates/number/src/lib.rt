@@ -8,7 +8,7 @@ ghost use Rattle.number.specs.Answers.{as_read};
 use refusal::Reason;
 
 // What reading a number finds.
-#[derive(Drop)]
+#[derive(Clone, Copy)]
 pub enum Read {
     // The number, and the position behind its last byte.
     Value { value: u64, next: usize },

@@ -4,7 +4,7 @@ use refusal::Verdict;
 
 // A plan. Numbers are wider than their bounds, so that each of the writer's refusals is a condition on a record.
 // Jobs and places count from 1; what stands past `jobs` means nothing, and is 0 in a record that was read.
-#[derive(Drop)]
+#[derive(Clone, Copy)]
 pub struct Plan {
     // 1: makespan (last finish); 2: weighted completion time (total waiting).
     pub goal: u32,
@@ -19,7 +19,7 @@ pub struct Plan {
 }
 
 // What reading a plan message gives: on a refusal the record is all 0.
-#[derive(Drop)]
+#[derive(Clone, Copy)]
 pub struct Reading {
     pub verdict: Verdict,
     pub plan: Plan,

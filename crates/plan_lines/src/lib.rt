@@ -13,7 +13,7 @@ use queue::Queue;
 use units::Seconds;
 
 // One place of a plan, as it is printed.
-#[derive(Drop)]
+#[derive(Clone, Copy)]
 pub struct Line {
     pub place: u32,
     pub job: u8,

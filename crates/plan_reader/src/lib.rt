@@ -14,7 +14,7 @@ use plan::{Plan, Reading};
 use refusal::{Reason, Verdict};
 
 // The numbers before the jobs, and the position behind them.
-#[derive(Drop)]
+#[derive(Clone, Copy)]
 struct Front {
     goal: u32,
     cost: u64,
@@ -24,7 +24,7 @@ struct Front {
 }
 
 // What reading them finds.
-#[derive(Drop)]
+#[derive(Clone, Copy)]
 enum FrontRead {
     Value(Front),
     Refused(Reason),

@@ -7,7 +7,7 @@ use refusal::Verdict;
 
 // A queue. Numbers are wider than their bounds, so that each of the writer's refusals is a condition on a record.
 // Kinds, jobs and places count from 1; what stands past `kinds` and `jobs` means nothing, and is 0 in a record that was read.
-#[derive(Drop)]
+#[derive(Clone, Copy)]
 pub struct Queue {
     // 01's N.
     pub kinds: u32,
@@ -31,14 +31,14 @@ pub struct Queue {
 }
 
 // What reading a queue message gives: on a refusal the record is all 0.
-#[derive(Drop)]
+#[derive(Clone, Copy)]
 pub struct Reading {
     pub verdict: Verdict,
     pub queue: Queue,
 }
 
 // The numbers before the gaps.
-#[derive(Drop)]
+#[derive(Clone, Copy)]
 pub struct Settings {
     pub kinds: u32,
     pub goal: u32,

@@ -17,28 +17,28 @@ use queue::{Queue, Reading, Settings};
 use refusal::{Reason, Verdict};
 
 // What reading the settings finds: they and the position behind them, or the refusal.
-#[derive(Drop)]
+#[derive(Clone, Copy)]
 pub enum Front {
     Known(Settings, usize),
     Refused(Reason),
 }
 
 // What reading the allowed places of one kind finds: they and the position behind them, or the refusal.
-#[derive(Drop)]
+#[derive(Clone, Copy)]
 pub enum WindowRead {
     Window { first: u8, last: u8, next: usize },
     Refused(Reason),
 }
 
 // The record up to the allowed places, with no jobs.
-#[derive(Drop)]
+#[derive(Clone, Copy)]
 pub struct Head {
     pub outcome: Outcome,
     pub queue: Queue,
 }
 
 // The weights and the allowed places of every kind.
-#[derive(Drop)]
+#[derive(Clone, Copy)]
 pub struct Limits {
     pub outcome: Outcome,
     pub weights: [u32; 5],

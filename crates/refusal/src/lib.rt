@@ -5,7 +5,7 @@ ghost use Rattle.refusal.specs.Reasons.{reason_number, reason_group, number_grou
 ghost use Rattle.refusal.specs.Words.{word_of};
 
 // Why a call is refused: one case for each row of 01's table of checks, in its order, 1 to 18, then what 02 adds.
-#[derive(Drop)]
+#[derive(Clone, Copy)]
 pub enum Reason {
     // 1: the first two bytes are missing or other.
     Opening,
@@ -50,7 +50,7 @@ pub enum Reason {
 }
 
 // The word that the program prints beside a refusal's number.
-#[derive(Drop)]
+#[derive(Clone, Copy)]
 pub enum Group {
     Message,
     Contents,
@@ -61,21 +61,21 @@ pub enum Group {
 }
 
 // A group's word: its first `length` letters, then 0.
-#[derive(Drop)]
+#[derive(Clone, Copy)]
 pub struct Word {
     pub letters: [u8; 8],
     pub length: usize,
 }
 
 // How reading a message ends.
-#[derive(Drop)]
+#[derive(Clone, Copy)]
 pub enum Verdict {
     Accepted,
     Refused(Reason),
 }
 
 // How writing a message ends.
-#[derive(Drop)]
+#[derive(Clone, Copy)]
 pub enum Written {
     // The number of its bytes.
     Bytes(usize),
@@ -83,7 +83,7 @@ pub enum Written {
 }
 
 // How planning ends.
-#[derive(Drop)]
+#[derive(Clone, Copy)]
 pub enum Answer {
     // The number of the plan's bytes.
     Planned(usize),
@@ -91,14 +91,14 @@ pub enum Answer {
 }
 
 // What a table must have and can be asked to hold: 01's N times P, and 02's largest kept count that the counts of the kinds allow.
-#[derive(Drop)]
+#[derive(Clone, Copy)]
 pub struct Sizes {
     pub entries: u64,
     pub most_feasible: u64,
 }
 
 // How asking for a table's size ends.
-#[derive(Drop)]
+#[derive(Clone, Copy)]
 pub enum TableSize {
     Known(Sizes),
     Refused(Reason),

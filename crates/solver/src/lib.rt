@@ -19,7 +19,7 @@ use next_states::Least;
 use queue::Queue;
 
 // The first choice from the start, whose cost is the plan's in its unit (NONE of it where no order is permitted), and the feasible states.
-#[derive(Drop)]
+#[derive(Clone, Copy)]
 pub struct Solution {
     pub first: Least,
     pub feasible_states: u64,

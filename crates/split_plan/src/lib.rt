@@ -2,7 +2,7 @@
 #![tactic(auto)]
 
 // The jobs of one cutter. Jobs have the numbers of the queue's message, and places count from 1; what stands past `jobs` means nothing.
-#[derive(Drop)]
+#[derive(Clone, Copy)]
 pub struct Cutter {
     // 02's count.
     pub jobs: u32,
@@ -11,7 +11,7 @@ pub struct Cutter {
 }
 
 // A split plan.
-#[derive(Drop)]
+#[derive(Clone, Copy)]
 pub struct SplitPlan {
     // 1: the later of the two last finishes; 2: the sum of both costs.
     pub goal: u32,

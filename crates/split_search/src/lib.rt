@@ -27,7 +27,7 @@ use units::Cost;
 
 // A split by its counts: what both cutters cost, NONE of its unit where either has no order, and how many of each kind the first cutter has, with their
 // index and how many these are.
-#[derive(Drop)]
+#[derive(Clone, Copy)]
 pub struct Split {
     pub cost: Cost,
     pub index: usize,
@@ -36,7 +36,7 @@ pub struct Split {
 }
 
 // What is the same for all splits: N, T and P, the weight of all jobs, both cutters' start kinds, and whether any gap is never.
-#[derive(Drop)]
+#[derive(Clone, Copy)]
 pub struct Bench {
     pub size: Size,
     pub weight: u64,
@@ -252,7 +252,7 @@ pub fn best_split(queue: Queue, layout: Layout, table: &[u64], second: usize) ->
 }
 
 // Both cutters' orders, each in sixty places, then 0.
-#[derive(Drop)]
+#[derive(Clone, Copy)]
 pub struct Orders {
     pub first: [u8; 60],
     pub second: [u8; 60],

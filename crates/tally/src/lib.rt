@@ -7,14 +7,14 @@ ghost use Rattle.tally.specs.Tally.{raised, tallied};
 use refusal::Answer;
 
 // How many calls ended in a plan, and how many in a refusal.
-#[derive(Drop)]
+#[derive(Clone, Copy)]
 pub struct Tally {
     pub plans: u32,
     pub refusals: u32,
 }
 
 // An answer, and the tally with it.
-#[derive(Drop)]
+#[derive(Clone, Copy)]
 pub struct Tallied {
     pub answer: Answer,
     pub tally: Tally,

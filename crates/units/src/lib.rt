@@ -4,15 +4,15 @@ ghost use Rattle.std.specs.Prelude.{◌≡◌, max, ◌+◌, ◌*◌, ◌^◌, �
 ghost use Rattle.units.specs.Costs.{cost_in, number_of, in_seconds, together};
 
 // Seconds: gaps, finishes and the cost under goal 1.
-#[derive(Drop)]
+#[derive(Clone, Copy)]
 pub struct Seconds(pub u64);
 
 // Pupil-seconds: the cost under goal 2.
-#[derive(Drop)]
+#[derive(Clone, Copy)]
 pub struct PupilSeconds(pub u64);
 
 // A cost in its goal's own unit.
-#[derive(Drop)]
+#[derive(Clone, Copy)]
 pub enum Cost {
     InSeconds(Seconds),
     InPupilSeconds(PupilSeconds),
