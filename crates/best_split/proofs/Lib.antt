@@ -3,3 +3,4 @@ pub mod Endings
 pub mod Answers
 pub mod Refusals
 pub mod Best
+pub mod Examples

@@ -1,22 +1,13 @@
 -- 01's small queues A to H, and A with nevers, as calls of planning on bytes: the answer, and the bytes of the plan, or what a refusal leaves.
-use Rattle.std.specs.Prelude.{ℕ, ◌+◌, ◌-◌, ◌*◌, ◌^◌, ◌≡◌, refl, length, take, drop, replicate}
-use mathlib.Core.List.{List, [], ◌∷◌, ◌++◌, flat_map}
+use Rattle.std.specs.Prelude.{ℕ, ◌+◌, ◌-◌, ◌*◌, ◌^◌, ◌≡◌, length, take, drop, replicate}
+use mathlib.Core.List.{List, [], ◌∷◌, ◌++◌}
 use Rattle.refusal.specs.Answers.{answer_number}
-use Rattle.number.specs.Readers.{times}
-use Rattle.number.specs.Numbers.{groups_at, groups, encode}
 use Rattle.fields.specs.Lists.{tabulate}
-use Rattle.fields.specs.Messages.{opens}
-use Rattle.queue.specs.Reading.{placed, settings, tables, head, jobs, queue, read_queue}
+use Rattle.queue.specs.Reading.{read_queue}
 use Rattle.plan.specs.Writing.{message}
-use Rattle.sequencing.specs.Lists.{from, sum, weigh, filter}
-use Rattle.sequencing.specs.States.{jobs_of, all_left, by_hand_in}
-use Rattle.sequencing.specs.Least.{least, arg_least}
-use Rattle.sequencing.specs.Recursion.{W, to_go, value, choice, walk, plan_cost, plan_kinds, plan_order}
-use Rattle.sequencing.specs.Entries.{size, digits, entry_kind, entry_left, filled_entry}
-use Rattle.sequencing.specs.Counts.{feasible_states}
-use Rattle.problem.specs.PlaceRule.{allowed}
+use Rattle.sequencing.specs.Entries.{filled_entry}
 use Rattle.problem.specs.OfQueue.{problem}
-use Rattle.best_order.specs.Endings.{Ending, room_verdict, ending_of, ending, best_plan, answer_of, buffer_of, TableEnding, untouched, filled_for, table_of}
+use Rattle.best_order.specs.Endings.{Ending, ending, answer_of, buffer_of, TableEnding, untouched, filled_for, table_of}
 
 -- A, but for its goal, shift, a_1 and a_2
 abbrev like_a : (goal shift a₁ a₂ : ℕ) → List ℕ
@@ -88,23 +79,3 @@ pub record Planning : Type 0 where
       ≡ (17, 0 ∷ none ∷ none ∷ 50 ∷ none ∷ none ∷ 0 ∷ replicate 5 none ++ (7 ∷ []), replicate 77 9)
   -- H: order 2 1
   pub H_plan : planned H 8 9 ≡ (256 * 9, 0x51 ∷ 0x50 ∷ 0x01 ∷ 0x01 ∷ 0x00 ∷ 0x04 ∷ 0x02 ∷ 0x02 ∷ 0x01 ∷ [])
-
-pub planning : Planning
-unfolding read_queue queue head settings tables jobs placed opens groups_at groups encode tabulate flat_map message ending ending_of room_verdict best_plan plan_cost plan_kinds plan_order feasible_states value to_go choice walk by_hand_in least arg_least W all_left jobs_of sum weigh filter from size digits entry_kind entry_left allowed times
-planning = record {
-  A_plan = refl;
-  A_eleven = refl;
-  A_short = refl;
-  A_cut = refl;
-  B_plan = refl;
-  C_plan = refl;
-  D_plan = refl;
-  E_none = refl;
-  F_plan = refl;
-  F_none = refl;
-  G_plan = refl;
-  G_one = refl;
-  never_plan = refl;
-  never_none = refl;
-  H_plan = refl;
-}

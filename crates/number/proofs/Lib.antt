@@ -3,3 +3,4 @@ pub mod Steps
 pub mod Reading
 pub mod Encoding
 pub mod Writing
+pub mod Examples

@@ -1,8 +1,8 @@
 -- Case I of 01, of one number: 00 is 0; 80 00 gives 3; 81 at the end 2; FF FF 03 is 65535; 80 80 04 is 65536.
-use Rattle.std.specs.Prelude.{◌≡◌, refl, [], ◌∷◌}
+use Rattle.std.specs.Prelude.{◌≡◌, [], ◌∷◌}
 use Rattle.refusal.specs.declared.Reason.TheVariants.{Ends, Groups}
 use Rattle.number.specs.Readers.{found, refused}
-use Rattle.number.specs.Numbers.{groups_at, groups, number, encode}
+use Rattle.number.specs.Numbers.{number, encode}
 
 -- 01's case I, with the longest form that is 3 and two numbers written
 abbrev pub Examples : Type 0
@@ -15,7 +15,3 @@ Examples =
     × (number 3 (0x80 ∷ 0x80 ∷ 0x80 ∷ []) 0 ≡ refused Groups)
     × (encode 65535 ≡ 0xFF ∷ 0xFF ∷ 0x03 ∷ [])
     × (encode 0 ≡ 0x00 ∷ [])
-
-pub examples : Examples
-unfolding groups_at groups encode
-examples = (refl, refl, refl, refl, refl, refl, refl, refl)

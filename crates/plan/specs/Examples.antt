@@ -1,15 +1,12 @@
 -- The plans of 01's cases A and B, read and written; messages for each of the plan reader's refusals; records for the writer's.
-use Rattle.std.specs.Prelude.{ℕ, ◌*◌, ◌^◌, ◌≡◌, refl, replicate}
-use mathlib.Core.List.{List, [], ◌∷◌, ◌++◌, flat_map}
+use Rattle.std.specs.Prelude.{ℕ, ◌*◌, ◌^◌, ◌≡◌, replicate}
+use mathlib.Core.List.{List, [], ◌∷◌, ◌++◌}
 use Rattle.refusal.specs.declared.Reason.TheVariants.{Opening, Ends, Groups, Edition, Goal, Jobs, Job, LeftOver, Buffer}
 use Rattle.refusal.specs.declared.Verdict.TheVariants.{Accepted, Refused}
 use Rattle.refusal.specs.declared.Written.TheVariants.{Bytes, Refused as NotWritten}
 use Rattle.refusal.specs.Answers.{written_number}
 use Rattle.number.specs.Readers.{refused}
-use Rattle.number.specs.Numbers.{groups_at, groups, encode}
-use Rattle.fields.specs.Lists.{tabulate, stands_in}
-use Rattle.fields.specs.Messages.{opens}
-use Rattle.fields.specs.Orders.{in_order, all_in_order}
+use Rattle.number.specs.Numbers.{groups}
 use Rattle.plan.specs.declared.Plan.{Plan}
 use Rattle.plan.specs.Reading.{plan, plan_of, as_reading, read_plan}
 use Rattle.plan.specs.Writing.{message, judge, write_plan, written_plan}
@@ -71,36 +68,3 @@ Examples =
     × (written_number (write_plan (plan_of 1 70 7 2 (1 ∷ 1 ∷ [])) 77) ≡ 18)
     × (written_plan (plan_of 1 70 7 2 (1 ∷ 1 ∷ [])) (replicate 77 0xAA) ≡ replicate 77 0xAA)
     × (written_plan plan_a (replicate 77 0xAA) ≡ bytes_a ++ replicate 67 0xAA)
-
-pub examples : Examples
-unfolding groups_at groups encode opens tabulate flat_map stands_in in_order all_in_order plan read_plan message judge write_plan written_plan
-examples = (
-  refl,
-  refl,
-  refl,
-  refl,
-  refl,
-  refl,
-  refl,
-  refl,
-  refl,
-  refl,
-  refl,
-  refl,
-  refl,
-  refl,
-  refl,
-  refl,
-  refl,
-  refl,
-  refl,
-  refl,
-  refl,
-  refl,
-  refl,
-  refl,
-  refl,
-  refl,
-  refl,
-  refl,
-)

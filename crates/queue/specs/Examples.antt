@@ -1,18 +1,15 @@
 -- The queue messages of 01's cases A, G and I, read and written; a message for each of the reader's refusals; records for the writer's.
-use Rattle.std.specs.Prelude.{ℕ, ◌+◌, ◌*◌, ◌≡◌, refl, drop, take, replicate}
-use mathlib.Core.List.{List, [], ◌∷◌, ◌++◌, flat_map}
+use Rattle.std.specs.Prelude.{ℕ, ◌+◌, ◌*◌, ◌≡◌, drop, take, replicate}
+use mathlib.Core.List.{List, [], ◌∷◌, ◌++◌}
 use Rattle.refusal.specs.declared.Reason.TheVariants.{Opening, Ends, Groups, Edition, Kinds, Goal, Shift, Start, Gap, Pupils, Places, Jobs, JobKind, LeftOver, Buffer}
 use Rattle.refusal.specs.declared.Verdict.TheVariants.{Accepted, Refused}
 use Rattle.refusal.specs.declared.Written.TheVariants.{Bytes, Refused as NotWritten}
 use Rattle.refusal.specs.Answers.{written_number}
-use Rattle.number.specs.Readers.{refused, times}
-use Rattle.number.specs.Numbers.{groups_at, groups, encode}
+use Rattle.number.specs.Readers.{refused}
 use Rattle.fields.specs.Fields.{all}
-use Rattle.fields.specs.Lists.{tabulate}
-use Rattle.fields.specs.Messages.{opens}
 use Rattle.queue.specs.declared.Queue.{Queue}
-use Rattle.queue.specs.Reading.{placed, settings, head_of, tables, head, with_jobs, jobs, queue, accepted, as_reading, read_queue}
-use Rattle.queue.specs.Writing.{head_bytes, job_bytes, message, judge_settings, judge_tables, judge_head, judge_jobs, judge, write_queue, written_queue}
+use Rattle.queue.specs.Reading.{head_of, with_jobs, jobs, queue, accepted, as_reading, read_queue}
+use Rattle.queue.specs.Writing.{message, judge, write_queue, written_queue}
 
 -- case A's bytes
 abbrev bytes_a : List ℕ
@@ -93,7 +90,3 @@ Examples =
     × (judge (queue_of 2 1 61 []) ≡ Refused Jobs)
     × (judge (record_of 1 0 10 3 (1, 60) (1 ∷ 2 ∷ 3 ∷ [])) ≡ Refused JobKind)
     × (judge (record_of 1 0 10 3 (1, 60) (1 ∷ 2 ∷ 0 ∷ [])) ≡ Refused JobKind)
-
-pub examples : Examples
-unfolding groups_at groups encode opens times tabulate flat_map all placed settings tables head jobs queue read_queue head_bytes job_bytes message judge_settings judge_tables judge_head judge_jobs judge write_queue written_queue
-examples = (refl, refl, refl, refl, refl, refl, refl, refl, refl, refl, refl, refl, refl, refl, refl, refl, refl, refl, refl, refl, refl, refl, refl, refl, refl, refl, refl, refl, refl, refl, refl, refl, refl, refl, refl, refl, refl, refl, refl, refl, refl, refl, refl)

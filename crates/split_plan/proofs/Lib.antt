@@ -1,3 +1,4 @@
 pub mod Cutters
 pub mod Lengths
 pub mod Telling
+pub mod Examples

@@ -1,8 +1,7 @@
 -- The messages of small splits: 01's cases A and B split over two cutters (`splitting` has their orders and costs), and the longest.
-use Rattle.std.specs.Prelude.{◌-◌, ◌^◌, ◌≡◌, refl, length, replicate}
-use mathlib.Core.List.{[], ◌∷◌, flat_map}
-use Rattle.number.specs.Numbers.{groups, encode}
-use Rattle.fields.specs.Lists.{tabulate}
+use Rattle.std.specs.Prelude.{◌-◌, ◌^◌, ◌≡◌, length, replicate}
+use mathlib.Core.List.{[], ◌∷◌}
+use Rattle.number.specs.Numbers.{groups}
 use Rattle.split_plan.specs.declared.Cutter.{Cutter}
 use Rattle.split_plan.specs.declared.SplitPlan.{SplitPlan}
 use Rattle.split_plan.specs.Record.{split_of}
@@ -25,7 +24,3 @@ pub record Examples : Type 0 where
       ≡ message (split_of 1 10 [] (1 ∷ []))
   -- the longest: a cost of six groups, sixty jobs
   pub longest : length (message (split_of 2 (2 ^ 42 - 1) (replicate 40 60) (replicate 20 60))) ≡ 72
-
-pub examples : Examples
-unfolding groups encode tabulate flat_map message
-examples = record { A_cold = refl; B_after_1 = refl; one_job = refl; no_jobs = refl; past = refl; longest = refl }

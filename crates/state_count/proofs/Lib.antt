@@ -4,3 +4,4 @@ pub mod States
 pub mod AllFeasible
 pub mod Most
 pub mod MoreKinds
+pub mod Examples

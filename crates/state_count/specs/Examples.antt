@@ -1,8 +1,7 @@
 -- 02's sum worked out: 01's case A, whose states are all kept; chapter 5, where shift 14 keeps all; no jobs; a kind without jobs; the largest table.
-use Rattle.std.specs.Prelude.{[], ◌∷◌, ◌≡◌, refl}
-use Rattle.sequencing.specs.Lists.{from, sum}
-use Rattle.sequencing.specs.Entries.{size}
-use Rattle.state_count.specs.StateCount.{others, most_feasible}
+use Rattle.std.specs.Prelude.{[], ◌∷◌, ◌≡◌}
+use Rattle.sequencing.specs.Lists.{sum}
+use Rattle.state_count.specs.StateCount.{most_feasible}
 
 abbrev pub Examples : Type 0
 Examples =
@@ -11,7 +10,3 @@ Examples =
     × (most_feasible (0 ∷ 0 ∷ []) ≡ 0)
     × (most_feasible (3 ∷ 0 ∷ 1 ∷ []) ≡ 10)
     × (most_feasible (12 ∷ 12 ∷ 12 ∷ 12 ∷ 12 ∷ []) ≡ 1713660)
-
-pub examples : Examples
-unfolding most_feasible others size sum from
-examples = (refl, refl, refl, refl, refl)

@@ -1,2 +1,3 @@
 pub mod Freed
 pub mod Sizing
+pub mod Examples

@@ -1,16 +1,8 @@
 -- Asked of messages: 01's cases A and G, a kind without jobs, and a refused one.
-use Rattle.std.specs.Prelude.{List, [], ◌∷◌, ◌++◌, ◌≡◌, refl, ℕ, ◌*◌}
+use Rattle.std.specs.Prelude.{List, [], ◌∷◌, ◌++◌, ◌≡◌, ℕ, ◌*◌}
 use Rattle.refusal.specs.Answers.{entries_number, most_number}
-use Rattle.number.specs.Readers.{times}
-use Rattle.number.specs.Numbers.{groups_at, groups}
-use Rattle.fields.specs.Lists.{tabulate}
-use Rattle.fields.specs.Messages.{opens}
-use Rattle.queue.specs.Reading.{placed, settings, tables, head, jobs, queue, read_queue}
-use Rattle.sequencing.specs.Lists.{from, sum, filter}
-use Rattle.sequencing.specs.States.{jobs_of, all_left}
-use Rattle.sequencing.specs.Entries.{size}
-use Rattle.state_count.specs.StateCount.{others, most_feasible}
-use Rattle.table_size.specs.Sizes.{sizes, table_size}
+use Rattle.queue.specs.Reading.{jobs, read_queue}
+use Rattle.table_size.specs.Sizes.{table_size}
 
 -- case A with other jobs: T, and the T kinds
 abbrev jobs_of_a : List ℕ → List ℕ
@@ -30,7 +22,3 @@ Examples =
     -- a job's kind over N: 13; a byte left over: 14
     × (asked (jobs_of_a (1 ∷ 3 ∷ [])) ≡ (13, 13))
     × (asked (jobs_of_a (0 ∷ 0 ∷ [])) ≡ (14, 14))
-
-pub examples : Examples
-unfolding table_size sizes most_feasible others size sum from filter tabulate jobs_of all_left read_queue queue settings tables head jobs placed opens times groups_at groups
-examples = (refl, refl, refl, refl, refl)
