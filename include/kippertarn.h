@@ -31,8 +31,8 @@ extern "C" {
 #endif
 
 /* The version of this header. kippertarn_version() answers that of the archive: they are to be the same. */
-#define KIPPERTARN_VERSION "1.5.0"
-#define KIPPERTARN_VERSION_NUMBER 1005000 /* 1000000 * major + 1000 * minor + patch */
+#define KIPPERTARN_VERSION "1.4.1"
+#define KIPPERTARN_VERSION_NUMBER 1004001 /* 1000000 * major + 1000 * minor + patch */
 
 #define KIPPERTARN_QUEUE_BYTES 178 /* the longest queue message that is accepted */
 #define KIPPERTARN_PLAN_BYTES 77   /* the longest plan message, and the least plan buffer that may be lent */

@@ -5,6 +5,6 @@ use Rattle.std.specs.Prelude.{ℕ, ◌+◌, ◌*◌}
 abbrev version_number : ℕ → ℕ → ℕ → ℕ
 version_number major minor patch = 1000000 * major + 1000 * minor + patch
 
--- 1.5.0
+-- 1.4.1
 abbrev pub version : ℕ
-version = version_number 1 5 0
+version = version_number 1 4 1

@@ -143,5 +143,5 @@ pub extern "C" fn kippertarn_most_kept(message: &[u8]) -> u64
 pub extern "C" fn kippertarn_version() -> u64
     ensures { result ≡ version }
 {
-    1005000
+    1004001
 }

@@ -110,12 +110,22 @@ module _ (P : Problem) where
             let e : (L, k) ≡ pair_of (number P L k) = λ i. (sym (kind_number P L k p) i, sym (left_number P L k p) i) in
             Memᴰ.cast e (holding_has (entries P) (number P L k) (number_in P L k p) h)
 
-  -- Demand 3's count: the number of entries that hold a value is that of the feasible states by 01's sentence
+  -- 01's kept count is the number of the pairs that are states and feasible
+  abbrev pub Kept : ℕ → List ℕ → Type 0
+  Kept L k = IsState P L k × Feasible P L k
+
+  pub of_pairs : (n : ℕ) → CountsPairs Kept n → CountsFeasible P n
+  of_pairs n c = record { states = c.pairs; distinct = c.distinct; exactly = c.exactly; many = c.many }
+
+  pub as_pairs : (n : ℕ) → CountsFeasible P n → CountsPairs Kept n
+  as_pairs n c = record { pairs = c.states; distinct = c.distinct; exactly = c.exactly; many = c.many }
+
+  -- the number of entries that hold a value is that of the feasible states by 01's sentence
   pub feasible_count : CountsFeasible P (feasible_states P)
   unfolding feasible_states
-  feasible_count = pairs_count (entry P) (λ L k. IsState P L k × Feasible P L k)
+  feasible_count = of_pairs _ (pairs_count (entry P) Kept
       (λ n h t. let s = state_of P (entry_kind P n) (entry_left P n) (pair_in P n h) t in (s, (feasible_is P (entry_kind P n) (entry_left P n) s).0 t))
-      (λ L k t. (t.0.pair, rw (entry_is P L k t.0.pair) ((feasible_is P L k t.0).1 t.1)))
+      (λ L k t. (t.0.pair, rw (entry_is P L k t.0.pair) ((feasible_is P L k t.0).1 t.1))))
 
 -- ---- numbers of pairs
 
@@ -135,4 +145,4 @@ count_once Q m n a b = omega (arith, count_most Q Q m n a b (λ L k t. t), count
 
 -- 01's kept count is one number
 pub count_unique : (P : Problem) (m n : ℕ) → CountsFeasible P m → CountsFeasible P n → m ≡ n
-count_unique P = count_once (λ L k. IsState P L k × Feasible P L k)
+count_unique P m n a b = count_once (Kept P) m n (as_pairs P m a) (as_pairs P n b)

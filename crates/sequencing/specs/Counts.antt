@@ -13,16 +13,19 @@ unfoldable pub NoRepeats : {A : Type 0} → List A → Type 0
 NoRepeats [] = Unit {0}
 NoRepeats (x ∷ xs) = (Memᴰ x xs → ⊥) × NoRepeats xs
 
--- n is the number of pairs of which Q holds: the length of a list without repeats in which a pair stands exactly when Q holds of it
+-- 01's kept count is n: n is the length of a list without repeats in which a pair stands exactly when it is a state and feasible
+pub record CountsFeasible (P : Problem) (n : ℕ) : Type 0 where
+  pub states : List (ℕ × List ℕ)
+  pub distinct : NoRepeats states
+  pub exactly : (L : ℕ) (k : List ℕ) → Memᴰ (L, k) states ↔ (IsState P L k × Feasible P L k)
+  pub many : length states ≡ n
+
+-- the same of any pairs: n is the number of those of which Q holds
 pub record CountsPairs (Q : ℕ → List ℕ → Type 0) (n : ℕ) : Type 0 where
   pub pairs : List (ℕ × List ℕ)
   pub distinct : NoRepeats pairs
   pub exactly : (L : ℕ) (k : List ℕ) → Memᴰ (L, k) pairs ↔ Q L k
   pub many : length pairs ≡ n
-
--- 01's kept count is n: the number of pairs that are states and feasible
-abbrev pub CountsFeasible : Problem → ℕ → Type 0
-CountsFeasible P n = CountsPairs (λ L k. IsState P L k × Feasible P L k) n
 
 -- 1 for a value, 0 for none
 abbrev pub valued : Option ℕ → ℕ
