@@ -1,0 +1,10 @@
+-- No bit is shifted out of its half.
+use Rattle.std.proofs.Common.{arith}
+use Rattle.places.proofs.PlaceSets.{bit_low, bit_high}
+use Rattle.places.proofs.place_bit.Goals as goal
+
+pub returns-then-place-lt32 : goal.returns-then-place-lt32
+returns-then-place-lt32 c = bit_low c.args.place (omega arith)
+
+pub returns : goal.returns
+returns c = bit_high c.args.place (omega arith) (omega arith)
