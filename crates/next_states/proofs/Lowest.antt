@@ -1,13 +1,14 @@
 -- The least over the kinds passed, as the loop over them holds it.
 -- Assumes nothing.
 use Prim.Native.Nat.{ℕ, suc, ◌+◌, ◌-◌, ◌^◌, ◌<◌, ◌≤◌, min}
-use mathlib.Core.Bool.{cond}
+use mathlib.Core.Bool.{true, false, cond}
 use mathlib.Core.Option.{Option, none, some}
 use mathlib.Core.Path.{◌≡◌, refl, sym, ap, ◌∙◌}
 use native.Mathlib.Numerals.{add-one}
 use native.Mathlib.Omega.{arith}
 use lib.Dec.{ltb}
-use borrow.Author.Tests.{le-ltb}
+use borrow.Author.Tests.{le-ltb, ltb-true, ltb-false}
+use Rattle.units.specs.declared.Cost.{Cost}
 use Rattle.units.specs.Costs.{cost_in, number_of}
 use Rattle.units.proofs.Costs.{number_is}
 use Rattle.sequencing.specs.Least.{least, arg_least}
@@ -23,6 +24,20 @@ pub unchanged : (goal : ℕ) {best : Least} (v : Option ℕ) (kind : ℕ) → v 
 unchanged goal {best} v kind e unit fits =
     let n = number_of best.cost in
     rw (e, le-ltb (2 ^ 64 - 1) n (omega arith)) (unit ∙ ap (cost_in goal) (omega arith), refl)
+
+-- a kind that comes to n changes the least only where it costs less
+module _ (goal : ℕ) {n : ℕ} {v : Option ℕ} (v-is : v ≡ some n) {cost : Cost} (cost_is : cost ≡ cost_in goal n) (best : Least) (kind : ℕ) where
+  pub taken : ltb (number_of cost) (number_of best.cost) ≡ true
+      → (cost ≡ cost_in goal (min (number_of best.cost) (stored v))) × (kind ≡ cond (ltb (stored v) (number_of best.cost)) kind best.kind)
+  taken e =
+      let test : ltb n (number_of best.cost) ≡ true = rw (number_is goal n cost_is) at e in
+      rw (v-is, test) (cost_is ∙ ap (cost_in goal) (omega (arith, ltb-true n (number_of best.cost) test)), refl)
+
+  pub kept : ltb (number_of cost) (number_of best.cost) ≡ false → best.cost ≡ cost_in goal (number_of best.cost)
+      → (best.cost ≡ cost_in goal (min (number_of best.cost) (stored v))) × (best.kind ≡ cond (ltb (stored v) (number_of best.cost)) kind best.kind)
+  kept e unit =
+      let test : ltb n (number_of best.cost) ≡ false = rw (number_is goal n cost_is) at e in
+      rw (v-is, test) (unit ∙ ap (cost_in goal) (omega (arith, ltb-false n (number_of best.cost) test)), refl)
 
 -- the least of the first x kinds
 pub record Lowest (goal : ℕ) (f : ℕ → Option ℕ) (best : Least) (x : ℕ) : Type 0 where
