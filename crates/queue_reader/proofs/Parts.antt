@@ -16,10 +16,6 @@ pub as_known : (f : Found Settings) (t : Settings) (n : ℕ) → as_front f ≡ 
 as_known (found u m) t n e = cc
 as_known (refused r) t n e = let z : ◌≡◌ {A = ℕ} 0 1 = cc in absurd (omega arith)
 
-pub as_unknown : (f : Found Settings) (r : Reason) → as_front f ≡ Unknown r → f ≡ refused r
-as_unknown (found u m) r e = let z : ◌≡◌ {A = ℕ} 0 1 = cc in absurd (omega arith)
-as_unknown (refused q) r e = cc
-
 pub as_window : (f : Found (ℕ × ℕ)) (a b n : ℕ) → as_places f ≡ Window a b n → f ≡ found (a, b) n
 as_window (found w m) a b n e =
     let p : w.0 ≡ a = cc in
