@@ -40,6 +40,7 @@ use Rattle.solver.proofs.Looking.{own_looks}
 use Rattle.split_search.specs.declared.Split.{Split}
 use Rattle.split_search.specs.declared.Bench.{Bench}
 use Rattle.split_search.specs.Searching.{alone, cost_upto, SplitsAt, no_split, first_of, Best}
+use Rattle.split_search.proofs.Costs.{alone_low}
 
 -- what the search is given
 pub record Given (q : Queue) (l : Layout) (table : List ℕ) (second : ℕ) : Type 0 where
@@ -225,3 +226,21 @@ module _ {q : Queue} {l : Layout} {table : List ℕ} {second : ℕ} (g : Given q
         counts_are = w.is_split.counts_are;
         jobs_are = w.is_split.jobs_are;
       }
+
+-- ---- a turn's split: what its cost is found from, and that it is found for all queues alike
+module _ {q : Queue} {l : Layout} {table : List ℕ} {second : ℕ} (g : Given q l table second) {left : List ℕ} {best : Split} {k : JobsLeft}
+    (w : Searching q second left best k) (h : k.index < l.size.block) {b : Bench}
+    (e : b ≡ record { size = l.size; weight = weigh (weight q) (take l.size.kinds l.counts); start = q.start; second = second; forbids = l.forbids }) where
+  pub splitting : SplitsAt q l table left l.counts l.strides l.blocks q.gaps q.goal b k
+  splitting = splits g (left_here g.valid g.prepared w.counting h) w.counting.summed e
+
+  pub told_cost : {x : Cost}
+      → ((q' : Queue) (l' : Layout) → SplitsAt q' l' table left l.counts l.strides l.blocks q.gaps q.goal b k
+      → x ≡ cost_in q'.goal (cost_upto (problem q') b.second (number_of best.cost) k.index))
+      → x ≡ cost_in q.goal (cost_upto (problem q) second (number_of best.cost) k.index)
+  told_cost told =
+      told q l splitting
+      ∙ ap (λ (b' : Bench). cost_in q.goal (cost_upto (problem q) b'.second (number_of best.cost) k.index)) e
+
+  pub alone_within : alone (problem q) k.index ≤ cost_at (problem q) second k.index
+  alone_within = omega (arith, alone_low splitting, ap (λ (b' : Bench). cost_at (problem q) b'.second k.index) e)
