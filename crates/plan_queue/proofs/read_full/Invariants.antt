@@ -1,0 +1,9 @@
+-- No more bytes were read than there is room for; each turn reads one at least.
+use Rattle.std.proofs.Common.{◌-◌, ◌≡◌, ◌≤◌, length}
+use Rattle.plan_queue.proofs.read_full.Given as goal
+
+abbrev pub invariant-loop-n : goal.invariant-loop-n
+invariant-loop-n g l = (l.n ≤ length l.input) × (length l.input ≡ length l.initial.input)
+
+abbrev pub decreases-loop-n : goal.decreases-loop-n
+decreases-loop-n g l = length l.initial.input - l.n
