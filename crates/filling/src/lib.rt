@@ -1,6 +1,7 @@
 // Filling the table of a queue: every state's value, and how many states are feasible.
 #![tactic(auto)]
-ghost use Rattle.std.specs.Prelude.{false, ◌≡◌, ℕ, ◌+◌, ◌-◌, ◌^◌, ◌≤◌, ◌<◌, length};
+
+ghost use Rattle.std.specs.Prelude.{◌≡◌, ℕ, ◌+◌, ◌-◌, ◌^◌, ◌≤◌, ◌<◌, length};
 ghost use Rattle.std.proofs.Math.Option.{none, some};
 ghost use Rattle.gaps.specs.Gaps.{has_never};
 ghost use Rattle.queue.specs.Record.{Valid};
@@ -11,22 +12,14 @@ ghost use Rattle.sequencing.specs.Counts.{valued, feasible_states};
 ghost use Rattle.problem.specs.OfQueue.{problem};
 ghost use Rattle.places.specs.PlaceSets.{is_in};
 ghost use Rattle.layout.specs.Prepared.{Prepared};
-ghost use Rattle.next_states.specs.NextStates.{loaded, none_of, Ready};
+ghost use Rattle.next_states.specs.NextStates.{loaded, Ready};
 ghost use Rattle.filling.specs.Filling.{value_by, Storable, StatesStored, in_place, Slotted, Arrays, entry_from, Fillable};
 
 use jobs_left::JobsLeft;
 use layout::{Layout, Size};
 use queue::Queue;
 
-// A state's value, NONE where it is not feasible, and the count with it.
-#[derive(Clone, Copy)]
-struct State {
-    value: u64,
-    feasible: u64,
-}
-
-// The value of one state with jobs left, of which some next state has a value; counted where it is feasible. Where no gap is never that is wherever its job
-// may stand, and the value is not asked.
+// The value of one state with jobs left, NONE where it is not feasible.
 fn state_value(
     next: &[u64],
     gaps: &[u32; 30],
@@ -36,34 +29,21 @@ fn state_value(
     weight: u64,
     here: u64,
     places: u64,
-    feasible: u64,
-) -> State
-    requires ready { Ready next.now gaps.now kind weight × ((forbids ≡ has_never gaps.now) × (goal ≡ 1 → weight ≡ 1)) }
-    requires next_value { (none_of next.now ≡ false) × (feasible < 2 ^ 63) }
-    ensures value_value { result.value ≡ stored (value_by next.now gaps.now weight (is_in here places) kind) }
-    ensures feasible_value { result.feasible ≡ feasible + valued (loaded result.value) }
+) -> u64
+    requires { Ready next.now gaps.now kind weight × ((forbids ≡ has_never gaps.now) × (goal ≡ 1 → weight ≡ 1)) }
+    ensures { result ≡ stored (value_by next.now gaps.now weight (is_in here places) kind) }
 {
     if places & here == 0 {
-        return State {
-            value: next_states::NONE,
-            feasible,
-        };
+        return next_states::NONE;
     }
     if forbids {
         let best = next_states::least_open(next, gaps, kind, goal, weight);
         let cost = best.cost;
-        let value = cost.number();
-        return State {
-            value,
-            feasible: counted(feasible, value),
-        };
+        return cost.number();
     }
     let best = next_states::least_of(next, gaps, kind, goal, weight);
     let cost = best.cost;
-    State {
-        value: cost.number(),
-        feasible: feasible + 1,
-    }
+    cost.number()
 }
 
 // The count with one more where there is a value.
@@ -145,14 +125,14 @@ fn store_values(
     index: usize,
 ) -> u64
     requires slotted { ((P : Problem) × Storable P blocks.now table.old index kinds) × Slotted left.now slots.now places.now kinds }
-    requires by_index { ((L : ℕ) → 1 ≤ L → L ≤ kinds → Ready next.now gaps.now L weight) × ((forbids ≡ has_never gaps.now) × ((goal ≡ 1 → weight ≡ 1) × (none_of next.now ≡ false))) }
+    requires by_index { ((L : ℕ) → 1 ≤ L → L ≤ kinds → Ready next.now gaps.now L weight) × ((forbids ≡ has_never gaps.now) × (goal ≡ 1 → weight ≡ 1)) }
     ensures { (P : Problem) → Storable P blocks.now table.old index kinds → StatesStored P (λ L. value_by next.now gaps.now weight (in_place left.now slots.now places.now here L) L) table.old index table.new result }
 {
     let mut feasible: u64 = 0;
     let mut kind: usize = 0;
     while kind < kinds {
         let slot = slots[kind] + left[kind] as usize;
-        let state = state_value(
+        let value = state_value(
             next,
             gaps,
             forbids,
@@ -161,11 +141,10 @@ fn store_values(
             weight,
             here,
             places[slot],
-            feasible,
         );
         let entry = next_states::state_entry(blocks, index, kind);
-        table[entry] = state.value;
-        feasible = state.feasible;
+        table[entry] = value;
+        feasible = counted(feasible, value);
         kind = kind + 1;
     }
     feasible
@@ -207,11 +186,13 @@ fn fill_states(
 
 // The place of the jobs just cut, as a bit: one place earlier where one job more is left, which most steps do; else it is shifted anew.
 fn place_after(here: u64, before: u32, jobs: u32, total: u32) -> u64
-    requires { (here ≡ 2 ^ (total - before)) × ((before < 2 ^ 31) × ((jobs ≤ total) × (total < 64))) }
+    requires { (here ≡ 2 ^ (total - before)) × ((jobs ≤ total) × (total < 64)) }
     ensures { result ≡ 2 ^ (total - jobs) }
 {
-    if before + 1 == jobs {
-        return here / 2;
+    if before < jobs {
+        if jobs - before == 1 {
+            return here / 2;
+        }
     }
     places::place_bit(total - jobs)
 }

@@ -47,10 +47,9 @@ place_after-here-requires c =
     let g = given (goal.at.place_after-here-requires c).After-place_bit-here in
     let w = c.loop-k.invariant in
     let h = c.loop-k-test.true in
-    let (_, (_, (_, (_, (_, (small, _)))))) = may_step g.valid g.prepared w.counting h g.weights_long in
     let step = c.step_left-k.ensures in (
       here_is g w h,
-      (small, (few_stepped g.valid g.prepared w.counting h c.step_left-k.new.left step.left_after step.summed, omega (arith, g.prepared.jobs_are, g.valid.jobs))),
+      (few_stepped g.valid g.prepared w.counting h c.step_left-k.new.left step.left_after step.summed, omega (arith, g.prepared.jobs_are, g.valid.jobs)),
     )
 
 pub loop-k-preserved : goal.loop-k-preserved

@@ -18,7 +18,7 @@ store_values-requires-clause-by_index c =
     let (P, g) = c.requires.0 in
     let weight_is = c.step_weight-weight.ensures in (
       state_ready g (c.load_next-next.ensures P g.running) weight_is,
-      (c.requires.1, ((λ e. weight_is ∙ rw (eq-eqb c.args.goal 1 e)), sym c.none_next.ensures ∙ c.if-none_next.false)),
+      (c.requires.1, (λ e. weight_is ∙ rw (eq-eqb c.args.goal 1 e))),
     )
 
 pub returns : goal.returns

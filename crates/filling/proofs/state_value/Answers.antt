@@ -1,4 +1,4 @@
--- Each return is one case of `value_by`, and is counted if it is a value.
+-- Each return is one case of `value_by`.
 use Rattle.std.proofs.Common.{◌≡◌, ◌≢◌, ℕ, List, sym, ◌∙◌, arith}
 use Rattle.std.specs.Int.Bits.{bit_and}
 use borrow.Author.Tests.{lt-ltb}
@@ -10,7 +10,6 @@ use Rattle.next_states.specs.declared.Least.{Least}
 use Rattle.next_states.specs.NextStates.{candidate, IsLeast}
 use Rattle.next_states.proofs.Candidates.{all_open}
 use Rattle.filling.specs.Filling.{value_by}
-use Rattle.filling.proofs.States.{counted_least}
 use Rattle.filling.proofs.state_value.Goals as goal
 
 -- where a job may stand there, the value is the least that a look finds
@@ -19,24 +18,17 @@ found : (goal kind w here places : ℕ) (next gaps : List ℕ) {r : Least} {n : 
 found goal kind w here places next gaps there least is =
     rw (lt-ltb 0 (bit_and places here) (omega (arith, there))) (is ∙ number_is _ _ least.cost_is)
 
-pub returns-then-forbids-clause-value_value : goal.returns-then-forbids-clause-value_value
-returns-then-forbids-clause-value_value c =
+pub returns-then-forbids : goal.returns-then-forbids
+returns-then-forbids c =
     let a = c.args in
-    found a.goal a.kind a.weight a.here a.places a.next.now a.gaps.now c.if-places-here-eq0.false c.least_open-best.ensures c.number-value.ensures
+    found a.goal a.kind a.weight a.here a.places a.next.now a.gaps.now c.if-places-here-eq0.false c.least_open-best.ensures c.number.ensures
 
 pub least_of-best-requires : goal.least_of-best-requires
 least_of-best-requires c =
-    let r = c.requires.ready in
+    let r = c.requires in
     (r.0, (all_open c.args.next.now c.args.gaps.now c.args.kind (sym r.1.0 ∙ c.if-forbids.false), r.1.1))
 
-pub returns-clause-value_value : goal.returns-clause-value_value
-returns-clause-value_value c =
+pub returns : goal.returns
+returns c =
     let a = c.args in
-    found a.goal a.kind a.weight a.here a.places a.next.now a.gaps.now c.if-places-here-eq0.false c.least_of-best.ensures c.number.ensures
-
-pub returns-clause-feasible_value : goal.returns-clause-feasible_value
-returns-clause-feasible_value c =
-    let a = c.args in
-    let r = c.requires.ready in
-    let follow = all_open a.next.now a.gaps.now a.kind (sym r.1.0 ∙ c.if-forbids.false) in
-    omega (arith, counted_least r.0 follow c.requires.next_value.0 (c.number.ensures ∙ number_is _ _ c.least_of-best.ensures.cost_is))
+    found a.goal a.kind a.weight a.here a.places a.next.now a.gaps.now c.if-places-here-eq0.false c.least_of-best.ensures c.number-2.ensures

@@ -16,9 +16,9 @@ offset_bounds-places-slot c = omega (arith, c.requires.slotted.1.slot_in (suc c.
 pub bounds-places-slot : goal.bounds-places-slot
 bounds-places-slot c = c.requires.slotted.1.slot_in (suc c.loop-kind.kind) (omega arith) c.loop-kind-test.true
 
-pub state_value-state-requires-clause-ready : goal.state_value-state-requires-clause-ready
-state_value-state-requires-clause-ready c =
-    let (ready, (forbids_is, (light, found))) = c.requires.by_index in (ready (c.loop-kind.kind + 1) (omega arith) (omega arith), (forbids_is, light))
+pub state_value-value-requires : goal.state_value-value-requires
+state_value-value-requires c =
+    let (ready, rest) = c.requires.by_index in (ready (c.loop-kind.kind + 1) (omega arith) (omega arith), rest)
 
 pub state_entry-entry-requires : goal.state_entry-entry-requires
 state_entry-entry-requires c =
@@ -41,8 +41,7 @@ loop-kind-preserved c P s =
     let a = c.args in
     let is = c.state_entry-entry.ensures P s.numbers.0 s.numbers.1 s.within (omega (arith, s.kinds_are)) in
     let fits = value_fits c.requires.by_index.0 (in_place a.left.now a.slots.now a.places.now a.here (suc c.loop-kind.kind)) (suc c.loop-kind.kind) (omega arith) c.loop-kind-test.true in
-    rw c.state_value-state.ensures.feasible_value
-    (kinds_more s (c.loop-kind.invariant P s) c.loop-kind-test.true is fits (rw add-one at c.state_value-state.ensures.value_value))
+    rw c.counted-feasible.ensures (kinds_more s (c.loop-kind.invariant P s) c.loop-kind-test.true is fits (rw add-one at c.state_value-value.ensures))
 
 pub returns : goal.returns
 returns c P s = kinds_done s (c.loop-kind.invariant P s) c.loop-kind-test.false
