@@ -7,7 +7,6 @@ use Rattle.refusal.specs.declared.Written.{Written}
 use Rattle.refusal.specs.declared.Written.TheVariants.{Bytes, Refused as NotWritten}
 use Rattle.refusal.specs.declared.Answer.{Answer}
 use Rattle.refusal.specs.declared.Answer.TheVariants.{Planned, Refused as NotPlanned}
-use Rattle.refusal.specs.declared.Sizes.{Sizes}
 use Rattle.refusal.specs.declared.TableSize.{TableSize}
 use Rattle.refusal.specs.declared.TableSize.TheVariants.{Known, Refused as NotKnown}
 use Rattle.refusal.specs.Reasons.{reason_number, needed}

@@ -1,5 +1,6 @@
 // The refusals of documents 01 and 02: the one vocabulary of reasons, their numbers, and the group and word that the program prints.
 #![tactic(auto)]
+
 ghost use Rattle.std.specs.Prelude.{◌≤◌, ◌≡◌, length};
 ghost use Rattle.refusal.specs.Reasons.{reason_number, reason_group, number_group};
 ghost use Rattle.refusal.specs.Words.{word_of};
