@@ -1,5 +1,6 @@
 // The two measures, which never meet in a sum or a comparison: times in seconds, and pupil-seconds, a weight times seconds.
 #![tactic(auto)]
+
 ghost use Rattle.std.specs.Prelude.{◌≡◌, max, ◌+◌, ◌*◌, ◌^◌, ◌<◌, ltb};
 ghost use Rattle.units.specs.Costs.{cost_in, number_of, in_seconds, together};
 

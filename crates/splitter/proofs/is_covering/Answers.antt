@@ -1,0 +1,17 @@
+-- The first place and the last decide, where there are jobs.
+use Rattle.std.proofs.Common.{sym, ◌∙◌, arith}
+use borrow.Author.Tests.{le-leb, lt-leb}
+use Rattle.fields.specs.Fields.{all}
+use Rattle.sequencing.specs.Lists.{from}
+use Rattle.splitting.proofs.Covered.{covering_ends}
+use Rattle.splitter.proofs.is_covering.Goals as goal
+
+pub returns-then-jobs-eq0 : goal.returns-then-jobs-eq0
+unfolding all from
+returns-then-jobs-eq0 c = rw c.if-jobs-eq0.true
+
+pub returns-then-first-gt1 : goal.returns-then-first-gt1
+returns-then-first-gt1 c = sym (covering_ends _ _ _ (omega arith) ∙ rw (lt-leb _ _ c.if-first-gt1.true))
+
+pub returns : goal.returns
+returns c = sym (covering_ends _ _ _ (omega arith) ∙ rw (le-leb _ _ c.if-first-gt1.false))
