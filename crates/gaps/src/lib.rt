@@ -1,5 +1,6 @@
 // Gaps as a record's array holds them: where each stands, and the look-up, which gives seconds or never.
 #![tactic(auto)]
+
 ghost use Rattle.std.specs.Prelude.{◌≢◌, ◌≡◌, ◌^◌, ◌<◌, length};
 ghost use Rattle.gaps.specs.declared.Gap.TheVariants.{Lasting, Never};
 ghost use Rattle.gaps.specs.Gaps.{gap_row, gap_index, gap_between, has_never};
