@@ -44,9 +44,8 @@ returns-then-cost-clause-buffer_after c =
 pub overflow_sub-size : goal.overflow_sub-size
 overflow_sub-size c = some_block c.requires.0 c.requires.1.0
 
--- stub name
-pub follow-order-requires-clause-given : goal.follow-order-requires-clause-given
-follow-order-requires-clause-given c =
+pub follow-order-requires : goal.follow-order-requires
+follow-order-requires c =
     let (v, (p, (room, _))) = c.requires in
     let told = c.solve-solution.ensures in
     let first = told.first_choice in
