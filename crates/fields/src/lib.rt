@@ -1,5 +1,6 @@
 // The numbers of a message, each judged as it is read. Their reader is `fields_reader`, their writer `fields_writer`.
 #![tactic(auto)]
+
 ghost use Rattle.std.specs.Prelude.{◌≡◌, take};
 ghost use Rattle.fields.specs.Fields.{within};
 ghost use Rattle.fields.specs.Lists.{stands_in};

@@ -1,5 +1,6 @@
 // What every message is read with: its opening, the numbers of it, each judged as it is read, and runs of them.
 #![tactic(auto)]
+
 ghost use Rattle.std.specs.Prelude.{◌≡◌, ◌+◌, ◌≤◌, length, get_or};
 ghost use Rattle.std.proofs.lemmas.List.Edits.{sets};
 ghost use Rattle.number.specs.Readers.{times};

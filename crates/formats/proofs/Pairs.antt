@@ -9,7 +9,7 @@ use lib.ListN.{length, take, drop, length-append}
 use Rattle.refusal.specs.declared.Reason.{Reason}
 use Rattle.refusal.specs.declared.Verdict.{Verdict}
 use Rattle.refusal.specs.declared.Verdict.TheVariants.{Accepted, Refused}
-use Rattle.number.specs.Readers.{Found, found, refused, Reader, and_then, ◌>>=◌, ◌>>◌, give}
+use Rattle.number.specs.Readers.{Found, found, refused, Reader, and_then, ◌>>=◌, give}
 use Rattle.number.proofs.Steps.{went_on, found_value, found_next}
 use Rattle.fields.specs.Lists.{Bytes}
 use Rattle.fields.proofs.Codecs.{Stand, stand_append, past}

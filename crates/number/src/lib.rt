@@ -1,5 +1,6 @@
 // Numbers in groups of seven bits, lowest group first, one byte each; bit 7 is set in all but the last byte (LEB128, canonical).
 #![tactic(auto)]
+
 ghost use Rattle.std.specs.Prelude.{◌≡◌, ◌+◌, ◌*◌, ◌%◌, ◌^◌, ◌≤◌, ◌<◌, length};
 ghost use Rattle.std.proofs.lemmas.List.Edits.{sets};
 ghost use Rattle.number.specs.Numbers.{number, encode};

@@ -6,9 +6,8 @@ use Rattle.refusal.specs.declared.Verdict.TheVariants.{Accepted, Refused}
 use Rattle.refusal.specs.declared.Written.TheVariants.{Bytes, Refused as NotWritten}
 use Rattle.refusal.specs.Answers.{written_number}
 use Rattle.number.specs.Readers.{refused}
-use Rattle.fields.specs.Fields.{all}
 use Rattle.queue.specs.declared.Queue.{Queue}
-use Rattle.queue.specs.Reading.{head_of, with_jobs, jobs, queue, accepted, as_reading, read_queue}
+use Rattle.queue.specs.Reading.{head_of, with_jobs, accepted, as_reading, read_queue}
 use Rattle.queue.specs.Writing.{message, judge, write_queue, written_queue}
 
 -- case A's bytes

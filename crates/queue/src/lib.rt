@@ -1,5 +1,6 @@
 // The queue message: its record. Its reader is `queue_reader`, its writer `queue_writer`.
 #![tactic(auto)]
+
 ghost use Rattle.std.specs.Prelude.{◌≡◌};
 ghost use Rattle.queue.specs.Record.{window_ok};
 

@@ -25,6 +25,6 @@ returns-in-Accepted c =
     let buffer = c.args.buffer.now in
     let verdict = sym (ap (λ (r : Reading). r.verdict) c.read_queue-reading.ensures) ∙ c.in-Accepted.is in
     let ends : ending_on c.args.message.now table buffer ≡ ending_of c.read_queue-reading.result.queue (length table) (length buffer) =
-        rw c.read_queue-reading.ensures (message_accepted _ _ _ verdict) in
+    rw c.read_queue-reading.ensures (message_accepted _ _ _ verdict) in
     let made = c.plan_record.ensures in
     planning (rw ends made.value) (rw ends made.leaves_table) (rw ends made.buffer_after)

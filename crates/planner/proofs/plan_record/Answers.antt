@@ -1,10 +1,8 @@
 -- 15 or 16, or what solving finds.
 use Rattle.std.proofs.Common.{◌≡◌, length, sym, ◌∙◌}
 use Rattle.layout.proofs.Prepared.{size_fits}
-use Rattle.best_order.specs.Endings.{refused as refused_ending, solved, ending_of}
+use Rattle.best_order.specs.Endings.{refused as refused_ending, ending_of}
 use Rattle.best_order.proofs.Endings.{room_enough, room_refused, room_accepted}
-use Rattle.sequencing.specs.Recursion.{plan_cost}
-use Rattle.problem.specs.OfQueue.{problem}
 use Rattle.planner.proofs.Room.{room_judged}
 use Rattle.planner.proofs.plan_record.Goals as goal
 
