@@ -1,5 +1,6 @@
 // The jobs left: their weight, 01's W, and stepping through all k in the table's order.
 #![tactic(auto)]
+
 ghost use Rattle.std.specs.Prelude.{◌≡◌, cond, ℕ, ◌+◌, ◌-◌, ◌*◌, ◌^◌, ◌≤◌, ◌<◌, eqb, length, get_or, take, drop};
 ghost use Rattle.sequencing.specs.Lists.{weigh};
 ghost use Rattle.jobs_left.specs.Steps.{next, Summed};

@@ -1,6 +1,7 @@
 // The C entries. All but the version answer R + 256 * V: R is 0 or the refusal, V the bytes of the written plan, the number that was asked for, the needed
 // entries for 16, else 0.
 #![tactic(auto)]
+
 ghost use Rattle.std.specs.Prelude.{cond, ◌≡◌, ◌^◌, ◌<◌};
 ghost use Rattle.refusal.specs.Reasons.{needed};
 ghost use Rattle.refusal.specs.Answers.{refusal_number, verdict_number, answer_number, entries_number, most_number};

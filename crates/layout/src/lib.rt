@@ -1,5 +1,6 @@
 // What is prepared once a call: N, T and P, the jobs of each kind, the places permitted to them, and the numbering of the table's entries.
 #![tactic(auto)]
+
 ghost use Rattle.std.specs.Prelude.{map, ◌≡◌, ℕ, min, max, ◌+◌, ◌-◌, ◌*◌, ◌^◌, ◌<◌, ◌≤◌, length, get_or, take};
 ghost use Rattle.std.proofs.lemmas.List.Edits.{sets};
 ghost use Rattle.fields.specs.Lists.{tabulate};

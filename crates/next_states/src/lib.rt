@@ -1,5 +1,6 @@
 // The next states of one k: where they stand in the table, what it holds for them, and the least over them from any row.
 #![tactic(auto)]
+
 ghost use Rattle.std.specs.Prelude.{◌≡◌, true, cond, List, ◌≢◌, ℕ, suc, min, ◌+◌, ◌*◌, ◌^◌, ◌≤◌, ◌<◌, ltb, length, get_or};
 ghost use Rattle.std.proofs.Math.Option.{none};
 ghost use Rattle.units.specs.Costs.{cost_in, number_of};

@@ -1,5 +1,6 @@
 // Sets of places, bit p for place p: one place, and the places permitted to each kind's job just cut.
 #![tactic(auto)]
+
 ghost use Rattle.std.specs.Prelude.{◌≡◌, ℕ, ◌+◌, ◌^◌, ◌<◌, ◌≤◌, length, get_or};
 ghost use Rattle.places.specs.PlaceSets.{places_from, set_at};
 

@@ -1,5 +1,6 @@
 // The plan message: its record. Its reader is `plan_reader`, its writer `plan_writer`.
 #![tactic(auto)]
+
 use refusal::Verdict;
 
 // A plan. Numbers are wider than their bounds, so that each of the writer's refusals is a condition on a record.

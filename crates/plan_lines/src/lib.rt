@@ -1,5 +1,6 @@
 // What the programs print of a plan: for a place its job, the kind and the finish.
 #![tactic(auto)]
+
 ghost use Rattle.std.specs.Prelude.{◌≡◌, ◌^◌, ◌<◌};
 ghost use Rattle.gaps.specs.Gaps.{gap_between, seconds_of};
 ghost use Rattle.sequencing.specs.Lists.{at};

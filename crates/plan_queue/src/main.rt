@@ -79,6 +79,10 @@ fn main(rt: HostRuntime) -> io::Result<()> {
     let n = read_full(&mut rt.reader(), &mut input)?;
     match planner::plan(&input[..n], &mut table, &mut buffer) {
         Answer::Refused(why) => print_refusal(&rt, why),
-        Answer::Planned(bytes) => print_plan(&rt, &input[..n], planner::written_plan(&buffer, bytes)),
+        Answer::Planned(bytes) => print_plan(
+            &rt,
+            &input[..n],
+            planner::written_plan(&buffer, bytes),
+        ),
     }
 }

@@ -1,5 +1,6 @@
 // The planning call: a queue message in, the best order out, into a table and a plan buffer that the caller lends.
 #![tactic(auto)]
+
 ghost use Rattle.std.specs.Prelude.{◌≡◌, ◌≤◌, length, take};
 ghost use Rattle.queue.specs.Record.{Valid};
 ghost use Rattle.sequencing.specs.Recursion.{plan_cost};

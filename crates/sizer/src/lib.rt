@@ -1,5 +1,6 @@
 // How much table to lend for a queue message: N times P entries, and the largest kept count that the counts of its kinds allow.
 #![tactic(auto)]
+
 ghost use Rattle.std.specs.Prelude.{◌≡◌, ℕ, ◌≤◌, ◌<◌, get_or, take};
 ghost use Rattle.queue.specs.Record.{Valid};
 ghost use Rattle.state_count.specs.StateCount.{most_feasible};

@@ -1,5 +1,6 @@
 // Solving a queue: the table filled, the best cost from the start, and the order that reaches it.
 #![tactic(auto)]
+
 ghost use Rattle.std.specs.Prelude.{◌≡◌, ◌+◌, ◌-◌, ◌≤◌, ◌<◌, length, get_or, set};
 ghost use Rattle.queue.specs.declared.Queue.{Queue};
 ghost use Rattle.queue.specs.Record.{Valid};

@@ -1,5 +1,6 @@
 // The best split of a queue over two cutters, by its filled table: one pass over all counts of the first cutter, two looks for each.
 #![tactic(auto)]
+
 ghost use Rattle.std.specs.Prelude.{◌≢◌, ◌≡◌, ℕ, ◌-◌, ◌≤◌, ◌<◌, T as Is, length, get_or, take};
 ghost use Rattle.std.proofs.Math.Option.{none};
 ghost use Rattle.units.specs.Costs.{cost_in, number_of, in_seconds};

@@ -1,5 +1,6 @@
 // The splitting call: a queue message in, the best split over two cutters out, into a table and a plan buffer that the caller lends.
 #![tactic(auto)]
+
 ghost use Rattle.std.specs.Prelude.{◌≡◌, ◌≤◌, T as Is, length};
 ghost use Rattle.queue.specs.Record.{Valid};
 ghost use Rattle.sequencing.specs.Entries.{entries};

@@ -1,5 +1,6 @@
 // Planning with a tally of plans and refusals, which goes in and comes back by value.
 #![tactic(auto)]
+
 ghost use Rattle.std.specs.Prelude.{◌≡◌};
 ghost use Rattle.best_order.specs.Planning.{Planning};
 ghost use Rattle.tally.specs.Tally.{raised, tallied};
