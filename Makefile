@@ -19,7 +19,7 @@ help: ## this list
 	@sed -n 's/^\([a-z-]*\):.*## /  make \1\t/p' Makefile | expand -t 20
 
 # What the archive is made of, as one sum: `rt` asks the same of each crate, and takes ten seconds.
-MADE_OF = find crates crates.txt include kippertarn.pc.in -name must-fail -prune -o -type f -print | LC_ALL=C sort | xargs sha256sum | sha256sum
+MADE_OF = find crates crates.txt include kippertarn.pc.in \( -name must-fail -o -name out \) -prune -o -type f -print | LC_ALL=C sort | xargs sha256sum | sha256sum
 
 # What is no queue is said before anything is built.
 run: ## a queue planned and drawn; QUEUE=FILE is a message or a text, SECOND_START=KIND splits it over two cutters
@@ -32,12 +32,13 @@ endif
 	@queue="$(QUEUE)" && name=$${queue##*/} && python3 tools/queue_text.py \
 		$(if $(SECOND_START),split "$(SECOND_START)" "$$queue",plan "$$queue" "target/run/$${name%.*}.svg")
 
-# Every crate proved from nothing, with the edits that must be refused; then the tests from C, on the archive of these proofs. The last line is the
-# toolchain's own `N passed, 0 failed`, held back until the tests have passed.
-test: ## every crate proved from nothing, the edits that must be refused, c-test
-	@said=$$(mktemp) && trap 'rm -f "$$said"' EXIT && { rt ci; echo $$? > "$$said.status"; } | tee "$$said" | sed -u '$$d'; \
-		status=$$(cat "$$said.status"); rm -f "$$said.status"; \
+# Every crate proved, with the edits that must be refused; then the tests from C, on the archive of these proofs. An edit that cannot be tried fails the
+# gate too. The last line is the toolchain's own `N passed, 0 failed`, held back until the tests have passed.
+test: ## every crate proved, the edits that must be refused, c-test
+	@said=$$(mktemp) && trap 'rm -f "$$said" "$$said.status"' EXIT && { rt ci; echo $$? > "$$said.status"; } | tee "$$said" | sed -u '$$d'; \
+		status=$$(cat "$$said.status"); \
 		if [ "$$status" != 0 ]; then tail -n 1 "$$said"; exit 1; fi; \
+		if grep -q '^rt: ok.*, [0-9][0-9]* bad' "$$said"; then echo "Edits that cannot be tried: see BAD EDIT above"; exit 1; fi; \
 		$(MAKE) --no-print-directory c-test && tail -n 1 "$$said"
 
 # The headers as they are installed.
@@ -47,14 +48,13 @@ $(INSTALLED):
 	@mkdir -p $(@D)
 	@cp $< $@
 
-# A line for each crate, as it is proved; rt keeps the rest of what it says in target/log.
+# A line for each crate, as it is proved.
 lib: $(INSTALLED) ## the archive, both headers and a pkg-config file, in target/lib and target/include
 	@command -v rt > /dev/null || { echo "The part is built with the Rattle toolchain: no command rt here"; exit 1; }
-	@echo "Building the part: its crates are proved, then compiled. From nothing that takes two to three minutes on two cores."
+	@echo "Building the part: its crates are proved, then compiled. From nothing that takes ten to fifteen minutes on two cores."
 	@mkdir -p target/lib/pkgconfig && rm -f target/lib/made-of && $(MADE_OF) > target/lib/made-of.part
-	@sh tools/crate_lines.sh rt check splitter plan_reader $(ALSO)
-	@sh tools/crate_lines.sh rt staticlib kippertarn
-	@cp target/staticlib/libkippertarn.a target/lib/libkippertarn.a
+	@cd crates/kippertarn && sh ../../tools/crate_lines.sh rt lib
+	@cp crates/kippertarn/out/libkippertarn.a target/lib/libkippertarn.a
 	@$(call PC,$(CURDIR)/target) > target/lib/pkgconfig/kippertarn.pc
 	@mv target/lib/made-of.part target/lib/made-of
 	@echo "Built: target/lib/libkippertarn.a"; echo
@@ -94,10 +94,11 @@ target/c/bench: bench/bench.c $(ARCHIVE) $(BEFORE) $(HEADERS)
 
 # the program plan_queue, proved and compiled
 target/bin/plan_queue: archive
-	rt check plan_queue
+	@mkdir -p target/bin
+	@cd crates/plan_queue && sh ../../tools/crate_lines.sh rt run < stdin
+	@cp crates/plan_queue/out/plan_queue target/bin/plan_queue
 
-# What the program needs beside the archive is proved with it, side by side; then two parts at a time.
-c-test: ALSO = plan_lines
+# Two parts at a time.
 c-test: archive ## the tests from C and of the tools, on the archive
 	@$(MAKE) --no-print-directory -j 2 -O ARCHIVE=$(ARCHIVE) $(RUNS)
 
@@ -139,4 +140,4 @@ bench: target/c/bench ## time and stack, beside planning and splitting written b
 	target/c/bench
 
 clean: ## removes all that was built
-	rm -rf target tools/__pycache__
+	rm -rf target tools/__pycache__ crates/*/out

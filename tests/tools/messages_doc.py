@@ -91,7 +91,7 @@ def as_macro(name):
 
 def proved_refusals():
     """Number to name by the definition of crates/refusal, and the names that each check can give."""
-    numbers = re.findall(r"^reasonNumber \(?(\w+).*? = (\d+)$", read("crates/refusal/specs/Reasons.antt"), re.M)
+    numbers = re.findall(r"^reason_number \(?(\w+).*? = (\d+)$", read("crates/refusal/specs/Reasons.antt"), re.M)
     queue = re.findall(r": QueueRefusal (\w+)$", read("crates/queue/specs/Refusals.antt"), re.M)
     plan = re.findall(r": PlanRefusal (\w+)$", read("crates/plan/specs/Refusals.antt"), re.M)
     return {int(number): as_macro(name) for name, number in numbers}, set(map(as_macro, queue)), set(map(as_macro, plan))
@@ -152,7 +152,7 @@ def compare_worked(page):
 def compare_version(header):
     text = re.search(r'^#define KIPPERTARN_VERSION "(\d+)\.(\d+)\.(\d+)"$', header, re.M)
     number = re.search(r"^#define KIPPERTARN_VERSION_NUMBER (\d+)\b", header, re.M)
-    proved = re.search(r"^version = versionNumber (\d+) (\d+) (\d+)$", read("crates/kippertarn/specs/Version.antt"), re.M)
+    proved = re.search(r"^version = version_number (\d+) (\d+) (\d+)$", read("crates/kippertarn/specs/Version.antt"), re.M)
     latest = re.search(r"^## (\d+)\.(\d+)\.(\d+)$", read("CHANGELOG.md"), re.M)
     major, minor, patch = map(int, text.groups()) if text else (0, 0, 0)
     same("the version's", "its string", {"number": 1000000 * major + 1000 * minor + patch},

@@ -6,9 +6,8 @@ use Rattle.refusal.specs.declared.Verdict.TheVariants.{Accepted, Refused}
 use Rattle.refusal.specs.declared.Written.TheVariants.{Bytes, Refused as NotWritten}
 use Rattle.refusal.specs.Answers.{written_number}
 use Rattle.number.specs.Readers.{refused}
-use Rattle.number.specs.Numbers.{groups}
 use Rattle.plan.specs.declared.Plan.{Plan}
-use Rattle.plan.specs.Reading.{plan, plan_of, as_reading, read_plan}
+use Rattle.plan.specs.Reading.{plan_of, as_reading, read_plan}
 use Rattle.plan.specs.Writing.{message, judge, write_plan, written_plan}
 
 -- case A

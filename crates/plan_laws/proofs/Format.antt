@@ -17,7 +17,7 @@ use Rattle.fields.proofs.Judged.{and_true, within_true, true_within}
 use Rattle.fields.proofs.Tables.{all_tabulate}
 use Rattle.plan.specs.declared.Plan.{Plan}
 use Rattle.plan.specs.Record.{fresh, job, job_list, Valid}
-use Rattle.plan.specs.Reading.{order, plan, plan_of, cleared}
+use Rattle.plan.specs.Reading.{plan, plan_of, cleared}
 use Rattle.plan.specs.Writing.{message, judge}
 use Rattle.formats.proofs.Verdicts.{judged_accepts}
 use Rattle.formats.proofs.Formats.{Format}

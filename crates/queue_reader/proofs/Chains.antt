@@ -7,13 +7,13 @@ use mathlib.Core.List.{List}
 use lib.Dec.{eqb}
 use lib.ListN.{length}
 use Rattle.refusal.specs.declared.Reason.{Reason}
-use Rattle.refusal.specs.declared.Reason.TheVariants.{Opening, Edition, Gap, Pupils, Jobs, JobKind, LeftOver}
+use Rattle.refusal.specs.declared.Reason.TheVariants.{Edition, Gap, Pupils, Jobs, JobKind, LeftOver}
 use Rattle.number.specs.Readers.{Found, found, refused, Reader, times}
 use Rattle.fields.specs.Fields.{field, within}
 use Rattle.fields.specs.Messages.{opens}
 use Rattle.queue.specs.declared.Queue.{Queue}
 use Rattle.queue.specs.declared.Settings.{Settings}
-use Rattle.queue.specs.Reading.{window, settings, head_of, tables, head, with_jobs, jobs, closed, queue}
+use Rattle.queue.specs.Reading.{window, head_of, tables, head, with_jobs, jobs, closed, queue}
 
 -- one gap, one weight, and one job's kind
 abbrev pub gap_field : Reader ℕ

@@ -8,7 +8,7 @@ use Rattle.number.specs.Readers.{Found, found, refused}
 use Rattle.fields.specs.declared.Outcome.TheVariants.{Next, Refused as Stopped}
 use Rattle.queue.specs.declared.Queue.{Queue}
 use Rattle.queue.specs.declared.Settings.{Settings}
-use Rattle.queue_reader.specs.declared.Front.TheVariants.{Known, Refused as Unknown}
+use Rattle.queue_reader.specs.declared.Front.TheVariants.{Known}
 use Rattle.queue_reader.specs.declared.WindowRead.TheVariants.{Window, Refused as Closed}
 use Rattle.queue_reader.specs.Answers.{as_front, as_places, as_head}
 

@@ -9,7 +9,7 @@ use Prim.Native.Nat.{ℕ, zero, suc, ◌+◌, ◌≤◌, ◌<◌}
 use native.Mathlib.Nat.{zero-add}
 use native.Mathlib.Omega.{arith}
 use lib.ListN.{length}
-use Rattle.sequencing.specs.Lists.{at, from, sum}
+use Rattle.sequencing.specs.Lists.{from, sum}
 use Rattle.sequencing.specs.Problem.{Problem}
 use Rattle.sequencing.specs.States.{IsPair, IsState}
 use Rattle.sequencing.specs.Feasible.{Feasible}

@@ -1,7 +1,6 @@
 -- The messages of small splits: 01's cases A and B split over two cutters (`splitting` has their orders and costs), and the longest.
 use Rattle.std.specs.Prelude.{◌-◌, ◌^◌, ◌≡◌, length, replicate}
 use mathlib.Core.List.{[], ◌∷◌}
-use Rattle.number.specs.Numbers.{groups}
 use Rattle.split_plan.specs.declared.Cutter.{Cutter}
 use Rattle.split_plan.specs.declared.SplitPlan.{SplitPlan}
 use Rattle.split_plan.specs.Record.{split_of}

@@ -1,12 +1,12 @@
 -- 02's sum with one kind more, in front or behind.
 -- Assumes nothing.
-use mathlib.Core.List.{List, [], ◌∷◌, ◌++◌, map}
+use mathlib.Core.List.{List, [], ◌∷◌, ◌++◌}
 use mathlib.Core.Path.{◌≡◌, refl, sym, ap, ap₂, ◌∙◌}
-use Prim.Native.Nat.{ℕ, zero, suc, pred, ◌+◌, ◌*◌, ◌≤◌, ◌<◌}
+use Prim.Native.Nat.{ℕ, zero, suc, pred, ◌+◌, ◌*◌, ◌≤◌}
 use native.Mathlib.Nat.{zero-mul, mul-zero, one-mul, mul-add, add-mul, mul_assoc, mul_left_comm}
 use native.Mathlib.Omega.{arith}
 use lib.ListN.{length, take, drop}
-use Rattle.sequencing.specs.Lists.{at, from, upto, sum}
+use Rattle.sequencing.specs.Lists.{at, from, sum}
 use Rattle.sequencing.specs.Entries.{size}
 use Rattle.sequencing.proofs.Radix.{size_more}
 use Rattle.sequencing.proofs.Sums.{sum_same}

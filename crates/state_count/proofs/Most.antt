@@ -1,6 +1,5 @@
 -- No kept count passes the number of states, and where everything is permitted it is that number.
 -- Assumes nothing.
-use mathlib.Core.List.{List}
 use Prim.Native.Nat.{ℕ, ◌≤◌}
 use Rattle.sequencing.specs.Problem.{Problem, AllPermitted, NoneForbidden}
 use Rattle.sequencing.specs.States.{all_left, IsState}

@@ -13,7 +13,7 @@ use Rattle.sequencing.specs.Lists.{at, from, upto, sum}
 use Rattle.sequencing.specs.Problem.{Problem}
 use Rattle.sequencing.specs.States.{K, all_left, IsState}
 use Rattle.sequencing.specs.Least.{only}
-use Rattle.sequencing.specs.Entries.{digits, block, entries, number, entry_kind, entry_left}
+use Rattle.sequencing.specs.Entries.{digits, block, entries, entry_kind, entry_left}
 use Rattle.sequencing.specs.Counts.{valued}
 use Rattle.sequencing.proofs.Counting.{sum_map_le, length_from}
 use Rattle.sequencing.proofs.AllJobs.{at_all, length_all}

@@ -2,7 +2,7 @@
 -- Assumes nothing.
 use mathlib.Core.List.{map}
 use mathlib.Core.Path.{◌≡◌, refl}
-use Prim.Native.Nat.{ℕ, zero, suc, pred, ◌+◌, ◌*◌}
+use Prim.Native.Nat.{ℕ, zero, suc, pred, ◌*◌}
 use native.Mathlib.Nat.{zero-mul, mul-zero, suc-mul, mul-add}
 use native.Mathlib.Omega.{arith}
 use Rattle.sequencing.specs.Lists.{from, sum}

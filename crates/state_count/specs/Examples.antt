@@ -1,6 +1,5 @@
 -- 02's sum worked out: 01's case A, whose states are all kept; chapter 5, where shift 14 keeps all; no jobs; a kind without jobs; the largest table.
 use Rattle.std.specs.Prelude.{[], ◌∷◌, ◌≡◌}
-use Rattle.sequencing.specs.Lists.{sum}
 use Rattle.state_count.specs.StateCount.{most_feasible}
 
 abbrev pub Examples : Type 0
