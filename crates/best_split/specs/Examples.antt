@@ -2,10 +2,7 @@
 use Rattle.std.specs.Prelude.{ℕ, ◌+◌, ◌*◌, ◌≡◌, take, replicate}
 use mathlib.Core.List.{List, [], ◌∷◌}
 use Rattle.refusal.specs.Answers.{answer_number}
-use Rattle.fields.specs.Fields.{all}
-use Rattle.queue.specs.Reading.{jobs, queue, read_queue}
-use Rattle.split_plan.specs.Writing.{message}
-use Rattle.sequencing.specs.Least.{least}
+use Rattle.queue.specs.Reading.{jobs, read_queue}
 use Rattle.best_order.specs.Endings.{Ending, ending, answer_of, buffer_of, TableEnding, untouched, filled_for, table_of}
 use Rattle.best_split.specs.Endings.{split_ending}
 

@@ -15,21 +15,31 @@ fn message_of(goal: u8, shift: u8) -> [u8; 48] {
     message
 }
 
-// The job at each place, each after a space.
+// A number, and what separates it from what follows.
+fn print_number(rt: &impl Print, value: u64, end: &str) -> io::Result<()> {
+    print!(rt; "{value}{end}")
+}
+
+// A job, after a space.
+fn print_job(rt: &impl Print, job: u8) -> io::Result<()> {
+    print!(rt; " {job}")
+}
+
+// The job at each place.
 fn print_jobs(rt: &impl Print, queue: Queue, plan: Plan) -> io::Result<()> {
     let mut place: u32 = 0;
     while place < plan.jobs {
         place = place + 1;
         let line = plan_lines::line_at(queue, plan, place);
-        print!(rt; " {}", line.job)?;
+        print_job(rt, line.job)?;
     }
     Ok(())
 }
 
 // A refusal's number: none is expected.
 fn print_refusal(rt: &impl Print, reason: Reason) -> io::Result<()> {
-    let number = refusal::reason_number(reason);
-    println!(rt; "refused {number}")
+    print!(rt; "refused ")?;
+    print_number(rt, refusal::reason_number(reason), "\n")
 }
 
 // The plan that was written.
@@ -40,7 +50,9 @@ fn print_plan(rt: &impl Print, message: &[u8], bytes: &[u8]) -> io::Result<()> {
         Verdict::Refused(why) => print_refusal(rt, why),
         Verdict::Accepted => {
             let plan = made.plan;
-            println!(rt; "cost {} kept {}", plan.cost, plan.feasible_states)?;
+            print!(rt; "cost ")?;
+            print_number(rt, plan.cost, " kept ")?;
+            print_number(rt, plan.feasible_states, "\n")?;
             print!(rt; "order")?;
             let reading = queue_reader::read_queue(message);
             print_jobs(rt, reading.queue, plan)?;
@@ -54,7 +66,9 @@ fn run(rt: &impl Print, goal: u8, shift: u8) -> io::Result<()> {
     let message = message_of(goal, shift);
     let mut table = [0u64; 630];
     let mut buffer = [0u8; 77];
-    println!(rt; "shift {shift} goal {goal}")?;
+    print!(rt; "shift ")?;
+    print_number(rt, shift as u64, " goal ")?;
+    print_number(rt, goal as u64, "\n")?;
     match planner::plan(&message, &mut table, &mut buffer) {
         Answer::Refused(why) => print_refusal(rt, why),
         Answer::Planned(n) => print_plan(rt, &message, planner::written_plan(&buffer, n)),

@@ -39,6 +39,10 @@ pub record Placing (jobs : List ℕ) (from count slot first last shift : ℕ) (e
   pub firsts : Storing (earliest_of jobs from count first shift) 0 (count + 1) earliest₀ slot earliest n
   pub lasts : Storing (latest_of jobs from count last shift) 0 (count + 1) latest₀ slot latest n
 
+pub placing_none : {jobs : List ℕ} {from count slot first last shift : ℕ} {earliest₀ latest₀ : List ℕ}
+    → Placing jobs from count slot first last shift earliest₀ latest₀ earliest₀ latest₀ 0
+placing_none = record { few = omega arith; firsts = storing_none; lasts = storing_none }
+
 module _ {jobs : List ℕ} {from count slot first last shift : ℕ} {earliest₀ latest₀ earliest latest : List ℕ} {n : ℕ}
     (w : Placing jobs from count slot first last shift earliest₀ latest₀ earliest latest n) where
   pub placing_more : (x y : ℕ) → n < count → x ≡ max first (cut_of jobs from count n - shift) → y ≡ min last (cut_of jobs from count n + shift)

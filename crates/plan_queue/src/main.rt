@@ -10,23 +10,33 @@ use refusal::{Answer, Reason, Verdict};
 use std::io;
 use std::io::{Read, Write};
 
+// A number, and what separates it from what follows.
+fn print_number(rt: &impl Print, value: u64, end: &str) -> io::Result<()> {
+    print!(rt; "{value}{end}")
+}
+
 // The plan's cost and 01's kept count.
 fn print_cost(rt: &impl Print, cost: u64, feasible_states: u64) -> io::Result<()> {
-    println!(rt; "cost {cost} kept {feasible_states}")
+    print!(rt; "cost ")?;
+    print_number(rt, cost, " kept ")?;
+    print_number(rt, feasible_states, "\n")
 }
 
 // One place of a plan.
 fn print_line(rt: &impl Print, line: Line) -> io::Result<()> {
     let finish = line.finish;
-    println!(rt; "{} {} {} {}", line.place, line.job, line.kind, finish.0)
+    print_number(rt, line.place as u64, " ")?;
+    print_number(rt, line.job as u64, " ")?;
+    print_number(rt, line.kind as u64, " ")?;
+    print_number(rt, finish.0, "\n")
 }
 
 // A refusal's number and the word of its group.
 fn print_refusal(rt: &impl Print, reason: Reason) -> io::Result<()> {
     let word = refusal::group_word(refusal::reason_group(reason));
     let letters = word.letters;
-    let number = refusal::reason_number(reason);
-    print!(rt; "refused {number} ")?;
+    print!(rt; "refused ")?;
+    print_number(rt, refusal::reason_number(reason), " ")?;
     io::writer(rt).write_all(&letters[..word.length])?;
     println!(rt)
 }

@@ -8,13 +8,17 @@ use Rattle.number.specs.Readers.{Found, found, refused}
 use Rattle.fields.specs.declared.Outcome.TheVariants.{Next, Refused as Stopped}
 use Rattle.queue.specs.declared.Queue.{Queue}
 use Rattle.queue.specs.declared.Settings.{Settings}
-use Rattle.queue_reader.specs.declared.Front.TheVariants.{Known}
+use Rattle.queue_reader.specs.declared.Front.TheVariants.{Known, Refused as Unknown}
 use Rattle.queue_reader.specs.declared.WindowRead.TheVariants.{Window, Refused as Closed}
 use Rattle.queue_reader.specs.Answers.{as_front, as_places, as_head}
 
 pub as_known : (f : Found Settings) (t : Settings) (n : ℕ) → as_front f ≡ Known t n → f ≡ found t n
 as_known (found u m) t n e = cc
 as_known (refused r) t n e = let z : ◌≡◌ {A = ℕ} 0 1 = cc in absurd (omega arith)
+
+pub as_unknown : (f : Found Settings) (r : Reason) → as_front f ≡ Unknown r → f ≡ refused r
+as_unknown (found u m) r e = let z : ◌≡◌ {A = ℕ} 0 1 = cc in absurd (omega arith)
+as_unknown (refused q) r e = cc
 
 pub as_window : (f : Found (ℕ × ℕ)) (a b n : ℕ) → as_places f ≡ Window a b n → f ≡ found (a, b) n
 as_window (found w m) a b n e =

@@ -16,6 +16,9 @@ pub record Comparing (a b : List ℕ) (kinds j : ℕ) : Type 0 where
   pub few : j ≤ kinds
   pub rest : is_before (take kinds a) (take kinds b) ≡ is_before (part j (kinds - j) a) (part j (kinds - j) b)
 
+pub compare_none : {a b : List ℕ} {kinds : ℕ} → Comparing a b kinds 0
+compare_none {a} {b} {kinds} = let e : kinds - 0 ≡ kinds = omega arith in record { few = omega arith; rest = rw e }
+
 module _ {a b : List ℕ} {kinds j : ℕ} (w : Comparing a b kinds j) where
   module _ (all-a : kinds ≤ length a) (all-b : kinds ≤ length b) (h : j < kinds) where
     -- the first kind of those from j

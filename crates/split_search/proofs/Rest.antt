@@ -6,8 +6,8 @@ use mathlib.Core.Path.{◌≡◌, refl, sym, ap, ◌∙◌}
 use Prim.Native.Nat.{ℕ, zero, suc, ◌+◌, ◌-◌, ◌≤◌, ◌<◌}
 use native.Mathlib.Nat.{add-mul}
 use native.Mathlib.Omega.{arith}
-use lib.ListN.{length, get_or, take, get_or-eq_default}
-use lib.Seq.{length-take-le}
+use lib.ListN.{length, get_or, take, set, length-set, get_or-eq_default}
+use lib.Seq.{length-take-le, get_or-set_same, get_or-set_other}
 use Rattle.number.proofs.Steps.{below_or_not}
 use Rattle.queue.specs.declared.Queue.{Queue}
 use Rattle.queue.specs.Record.{weight}
@@ -38,6 +38,17 @@ pub record Subtracting (counts left rest : List ℕ) (j : ℕ) : Type 0 where
   pub few : j ≤ 5
   pub long : length rest ≡ 5
   pub done : (x : ℕ) → x < j → get_or rest x 0 ≡ get_or counts x 0 - get_or left x 0
+
+pub subtract_more : {counts left rest : List ℕ} {j : ℕ} → Subtracting counts left rest j → j < 5
+    → Subtracting counts left (set rest j (get_or counts j 0 - get_or left j 0)) (j + 1)
+subtract_more {counts} {left} {rest} {j} w h = record {
+  few = omega arith;
+  long = length-set rest j (get_or counts j 0 - get_or left j 0) ∙ w.long;
+  done = λ x b. elim (below_or_not x j) [
+    | inl c ↦ get_or-set_other rest j x (get_or counts j 0 - get_or left j 0) 0 (λ e. omega arith) ∙ w.done x c
+    | inr c ↦ (let e : x ≡ j = omega arith in rw e (get_or-set_same rest j (get_or counts j 0 - get_or left j 0) 0 (omega (arith, w.long))))
+  ];
+}
 
 -- ---- weights add up
 
