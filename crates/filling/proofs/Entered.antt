@@ -24,9 +24,9 @@ use Rattle.problem.proofs.Rule.{jobs_is}
 use Rattle.jobs_left.specs.declared.JobsLeft.{JobsLeft}
 use Rattle.jobs_left.specs.Steps.{Summed}
 use Rattle.layout.specs.declared.Layout.{Layout}
-use Rattle.places.specs.PlaceSets.{places_from}
+use Rattle.layout.specs.PlaceSets.{places_from}
 use Rattle.layout.specs.Prepared.{earliest_at, latest_at}
-use Rattle.places.proofs.PlaceSets.{in_places}
+use Rattle.layout.proofs.PlaceSets.{in_places}
 use Rattle.layout.proofs.Prepared.{permitted_at, slots_long, slot_in, slot_used, earliest_at_lem, latest_at_lem, latest_few}
 use Rattle.next_states.proofs.Numbers.{left_is}
 use Rattle.filling.specs.Filling.{Arrays, in_place, weight_of, entry_from, Fillable}

@@ -9,7 +9,7 @@ use Rattle.sequencing.specs.Recursion.{value}
 use Rattle.sequencing.specs.Entries.{digits, k_at, number, block, entries, stored}
 use Rattle.sequencing.specs.Counts.{valued}
 use Rattle.jobs_left.specs.declared.JobsLeft.{JobsLeft}
-use Rattle.places.specs.PlaceSets.{is_in}
+use Rattle.layout.specs.PlaceSets.{is_in}
 use Rattle.next_states.specs.Numbers.{Numbers, Running}
 use Rattle.next_states.specs.NextStates.{next_values, candidate, Ready}
 

@@ -10,7 +10,7 @@ ghost use Rattle.sequencing.specs.Least.{only};
 ghost use Rattle.sequencing.specs.Entries.{entries, stored, FilledTable};
 ghost use Rattle.sequencing.specs.Counts.{valued, feasible_states};
 ghost use Rattle.problem.specs.OfQueue.{problem};
-ghost use Rattle.places.specs.PlaceSets.{is_in};
+ghost use Rattle.layout.specs.PlaceSets.{is_in};
 ghost use Rattle.layout.specs.Prepared.{Prepared};
 ghost use Rattle.next_states.specs.NextStates.{loaded, Ready};
 ghost use Rattle.filling.specs.Filling.{value_by, Storable, StatesStored, in_place, Slotted, Arrays, entry_from, Fillable};
@@ -167,7 +167,7 @@ fn fill_states(
     here: u64,
 ) -> u64
     requires { ((P : Problem) × Fillable P table.old (record { left = left.now; strides = strides.now; blocks = blocks.now; slots = slots.now; places = places.now; gaps = gaps.now }) goal k here kinds) × (forbids ≡ has_never gaps.now) }
-    ensures { ((P : Problem) → let a : Arrays = record { left = left.entry.now; strides = strides.now; blocks = blocks.now; slots = slots.now; places = places.now; gaps = gaps.now } in Fillable P table.old a goal k here kinds → StatesStored P (entry_from P table.old a goal k here) table.old k.index table.new result) }
+    ensures { ((P : Problem) → let a : Arrays = record { left = left.now; strides = strides.now; blocks = blocks.now; slots = slots.now; places = places.now; gaps = gaps.now } in Fillable P table.old a goal k here kinds → StatesStored P (entry_from P table.old a goal k here) table.old k.index table.new result) }
 {
     let index = k.index;
     let next = next_states::load_next(table, left, strides, blocks, index);
@@ -194,7 +194,7 @@ fn place_after(here: u64, before: u32, jobs: u32, total: u32) -> u64
             return here / 2;
         }
     }
-    places::place_bit(total - jobs)
+    layout::place_bit(total - jobs)
 }
 
 // Fills the table with every state's value; returns how many states are feasible.
@@ -218,8 +218,8 @@ pub fn fill(queue: Queue, layout: Layout, table: &mut [u64]) -> u64
         weight: 0,
     };
     let mut places = [0u64; 65];
-    places::place_sets(&layout.earliest, &layout.latest, size, &mut places);
-    let mut here = places::place_bit(size.jobs);
+    layout::place_sets(&layout.earliest, &layout.latest, size, &mut places);
+    let mut here = layout::place_bit(size.jobs);
     let mut feasible: u64 = 0;
     while k.index < size.block {
         feasible = feasible

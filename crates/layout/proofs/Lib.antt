@@ -4,5 +4,6 @@ pub mod Storing
 pub mod Listing
 pub mod ByKind
 pub mod Places
+pub mod PlaceSets
 pub mod Prepared
 pub mod Strides

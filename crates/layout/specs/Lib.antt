@@ -1,2 +1,3 @@
+pub mod PlaceSets
 pub mod Prepared
 pub mod Steps

@@ -5,7 +5,7 @@ use borrow.Author.Tests.{lt-ltb}
 use Rattle.units.specs.Costs.{number_of}
 use Rattle.units.proofs.Costs.{number_is}
 use Rattle.sequencing.specs.Entries.{stored}
-use Rattle.places.specs.PlaceSets.{is_in}
+use Rattle.layout.specs.PlaceSets.{is_in}
 use Rattle.next_states.specs.declared.Least.{Least}
 use Rattle.next_states.specs.NextStates.{candidate, IsLeast}
 use Rattle.next_states.proofs.Candidates.{all_open}

@@ -14,7 +14,7 @@ use lib.ListN.{length, get_or, set, length-set}
 use lib.Pow.{pow_pos, pow_mono, pow-add, shl_exact, high, suc_ones}
 use lib.Seq.{get_or-set_same, get_or-set_other}
 use Rattle.number.proofs.Steps.{below_or_not}
-use Rattle.places.specs.PlaceSets.{places_from, is_in, set_at}
+use Rattle.layout.specs.PlaceSets.{places_from, is_in, set_at}
 
 -- ---- the bit of a place
 

@@ -1,7 +1,7 @@
 -- No bit is shifted out of its half.
 use Rattle.std.proofs.Common.{arith}
-use Rattle.places.proofs.PlaceSets.{bit_low, bit_high}
-use Rattle.places.proofs.place_bit.Goals as goal
+use Rattle.layout.proofs.PlaceSets.{bit_low, bit_high}
+use Rattle.layout.proofs.place_bit.Goals as goal
 
 pub returns-then-place-lt32 : goal.returns-then-place-lt32
 returns-then-place-lt32 c = bit_low c.args.place (omega arith)

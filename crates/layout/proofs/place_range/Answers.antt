@@ -1,8 +1,8 @@
 -- A range that ends before it begins is empty, and else the bit behind its last place is not below that of its first.
 use Rattle.std.proofs.Common.{◌+◌, sym, arith}
 use Rattle.std.proofs.Math.Pow.{pow_mono}
-use Rattle.places.proofs.PlaceSets.{range_none}
-use Rattle.places.proofs.place_range.Goals as goal
+use Rattle.layout.proofs.PlaceSets.{range_none}
+use Rattle.layout.proofs.place_range.Goals as goal
 
 pub returns-then-last-first : goal.returns-then-last-first
 returns-then-last-first c = sym (range_none c.args.first c.args.last c.if-last-first.true)
