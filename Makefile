@@ -51,7 +51,7 @@ $(INSTALLED):
 # A line for each crate, as it is proved.
 lib: $(INSTALLED) ## the archive, both headers and a pkg-config file, in target/lib and target/include
 	@command -v rt > /dev/null || { echo "The part is built with the Rattle toolchain: no command rt here"; exit 1; }
-	@echo "Building the part: its crates are proved, then compiled. From nothing that takes ten to fifteen minutes on two cores."
+	@echo "Building the part: its crates are proved, then compiled. From nothing that takes some ten minutes."
 	@mkdir -p target/lib/pkgconfig && rm -f target/lib/made-of && $(MADE_OF) > target/lib/made-of.part
 	@cd crates/kippertarn && sh ../../tools/crate_lines.sh rt lib
 	@cp crates/kippertarn/out/libkippertarn.a target/lib/libkippertarn.a
