@@ -1,5 +1,6 @@
 -- Any call that plans, by how it ends: its answer fits 64 bits, a refusal changes only what 01 says, and what becomes of the buffer.
 -- Assumes nothing.
+use Rattle.std.specs.Prelude.{Err}
 use Prim.Native.Nat.{ℕ, ◌*◌, ◌^◌, ◌≤◌, ◌<◌}
 use mathlib.Core.List.{List}
 use mathlib.Core.Logic.{◌↔◌, ◌≢◌}
@@ -10,7 +11,6 @@ use lib.ListN.{length, take, drop}
 use lib.Seq.{sets, length-sets}
 use Rattle.refusal.specs.declared.Reason.{Reason}
 use Rattle.refusal.specs.declared.Reason.TheVariants.{NoOrder}
-use Rattle.refusal.specs.declared.Answer.TheVariants.{Refused}
 use Rattle.refusal.specs.Reasons.{reason_number, needed}
 use Rattle.refusal.specs.Answers.{answer_number}
 use Rattle.refusal.proofs.Reasons.{reason_range, refusal_of_lem}
@@ -33,7 +33,7 @@ answer_fits s (unplannable q) of = omega arith
 answer_fits s (planned q plan) short = omega (arith, short)
 
 -- an ending that fills the table refuses with 17 only
-pub only_17 : {q : Queue} (e : Ending) → table_of e ≡ filled_for q → (r : Reason) → answer_of e ≡ Refused r → reason_number r ≡ 17
+pub only_17 : {q : Queue} (e : Ending) → table_of e ≡ filled_for q → (r : Reason) → answer_of e ≡ Err r → reason_number r ≡ 17
 only_17 (refused r') fills r a = absurd (let z : ◌≡◌ {A = ℕ} 0 1 = cc in omega arith)
 only_17 (unplannable q') fills r a = omega (arith, ap answer_number a, reason_range r)
 only_17 (planned q' plan) fills r a = absurd (omega (arith, ap answer_number a, reason_range r))
@@ -57,7 +57,7 @@ module _ {q : Queue} {f : Option ℕ → Ending} (by : ByCost q f) where
   cost_17 (some c) = ((λ a. absurd (omega (arith, rw (by.on_some c).1 at a))), (λ e. absurd (none_some c (sym e))))
 
   -- by the answer itself
-  pub cost_none : (r : Option ℕ) → (answer_of (f r) ≡ Refused NoOrder) ↔ (r ≡ none)
+  pub cost_none : (r : Option ℕ) → (answer_of (f r) ≡ Err NoOrder) ↔ (r ≡ none)
   cost_none r = ((λ a. (cost_17 r).0 (ap answer_number a)), (λ e. rw (e, by.on_none) refl))
 
 -- ---- what is left

@@ -1,5 +1,7 @@
 -- A call's checks: a verdict by two tests; a check and what follows it, how the two end and which of them gives a refusal.
 -- Assumes nothing.
+use Rattle.refusal.specs.Answers.{Verdict, Accepted, Answer}
+use Rattle.std.specs.Prelude.{Ok, Err}
 use Prim.Native.Nat.{ℕ}
 use mathlib.Core.Bool.{Bool, true, false, cond}
 use mathlib.Core.List.{List}
@@ -7,18 +9,15 @@ use mathlib.Core.Logic.{◌↔◌, ◌≢◌}
 use mathlib.Core.Path.{◌≡◌, refl, sym}
 use native.Mathlib.Omega.{arith}
 use Rattle.refusal.specs.declared.Reason.{Reason}
-use Rattle.refusal.specs.declared.Verdict.{Verdict}
-use Rattle.refusal.specs.declared.Verdict.TheVariants.{Accepted, Refused as NotAccepted}
-use Rattle.refusal.specs.declared.Answer.TheVariants.{Refused}
 use Rattle.refusal.specs.Reasons.{reason_number}
 use Rattle.best_order.specs.Endings.{Ending, refused, if_accepted, answer_of}
 use Rattle.best_order.proofs.Calls.{OfCall}
 
-not_both : {r : Reason} → NotAccepted r ≡ Accepted → ⊥
+not_both : {r : Reason} → Err r ≡ Accepted → ⊥
 not_both e = let z : ◌≡◌ {A = ℕ} 0 1 = cc in omega arith
 
 -- what is answered was judged
-judged : {r r' : Reason} → Refused r' ≡ Refused r → NotAccepted r' ≡ NotAccepted r
+judged : {r r' : Reason} → ◌≡◌ {A = Answer} (Err r') (Err r) → ◌≡◌ {A = Verdict} (Err r') (Err r)
 judged a = cc
 
 -- ---- a check of two tests
@@ -26,16 +25,16 @@ judged a = cc
 module _ (x y : Reason) where
   -- refused where the first fires, then where the second does
   abbrev pub two_tests : Bool → Bool → Verdict
-  two_tests a b = cond a (NotAccepted x) (cond b (NotAccepted y) Accepted)
+  two_tests a b = cond a (Err x) (cond b (Err y) Accepted)
 
   -- a refusal is one of the two, under its condition ..
-  pub two_refusals : (a b : Bool) (S : Reason → Type 0) → (a ≡ true → S x) → (a ≡ false → b ≡ true → S y) → (r : Reason) → two_tests a b ≡ NotAccepted r → S r
+  pub two_refusals : (a b : Bool) (S : Reason → Type 0) → (a ≡ true → S x) → (a ≡ false → b ≡ true → S y) → (r : Reason) → two_tests a b ≡ Err r → S r
   two_refusals true b S first second r h = let e : r ≡ x = cc in rw e (first refl)
   two_refusals false true S first second r h = let e : r ≡ y = cc in rw e (second refl refl)
   two_refusals false false S first second r h = absurd (not_both (sym h))
 
   -- .. and has no other number
-  pub two_not : (a b : Bool) (r : Reason) → reason_number r ≢ reason_number x → reason_number r ≢ reason_number y → two_tests a b ≡ NotAccepted r → ⊥
+  pub two_not : (a b : Bool) (r : Reason) → reason_number r ≢ reason_number x → reason_number r ≢ reason_number y → two_tests a b ≡ Err r → ⊥
   two_not a b r p q h = two_refusals a b (λ r'. reason_number r' ≢ reason_number r) (λ _ e. p (sym e)) (λ _ _ e. q (sym e)) r h refl
 
   pub two_accepted : (a b : Bool) → two_tests a b ≡ Accepted → (a ≡ false) × (b ≡ false)
@@ -46,7 +45,7 @@ module _ (x y : Reason) where
 -- ---- a check, and what follows it
 
 -- a check's refusal ends the call ..
-pub check_refused : {v : Verdict} {r : Reason} (e : Ending) → v ≡ NotAccepted r → if_accepted v e ≡ refused r
+pub check_refused : {v : Verdict} {r : Reason} (e : Ending) → v ≡ Err r → if_accepted v e ≡ refused r
 check_refused e h = rw h
 
 -- .. and once it accepts, the call ends as what follows
@@ -54,26 +53,26 @@ pub check_accepted : {v : Verdict} (e : Ending) → v ≡ Accepted → if_accept
 check_accepted e h = rw h
 
 -- so that it ends as a call does where the check's refusals do, and what follows
-pub check_of_call : (s : List ℕ) (v : Verdict) (e : Ending) → ((r : Reason) → v ≡ NotAccepted r → OfCall s (refused r)) → (v ≡ Accepted → OfCall s e)
+pub check_of_call : (s : List ℕ) (v : Verdict) (e : Ending) → ((r : Reason) → v ≡ Err r → OfCall s (refused r)) → (v ≡ Accepted → OfCall s e)
     → OfCall s (if_accepted v e)
-check_of_call s Accepted e refusals rest = rest refl
-check_of_call s (NotAccepted r) e refusals rest = refusals r refl
+check_of_call s (Ok tt) e refusals rest = rest refl
+check_of_call s (Err r) e refusals rest = refusals r refl
 
 -- a refusal that nothing after the check gives is the check's
-pub refused_here : (v : Verdict) (e : Ending) (r : Reason) → (answer_of e ≡ Refused r → ⊥) → (answer_of (if_accepted v e) ≡ Refused r) ↔ (v ≡ NotAccepted r)
-refused_here Accepted e r never = ((λ a. absurd (never a)), (λ h. absurd (not_both (sym h))))
-refused_here (NotAccepted r') e r never = (judged, back)
+pub refused_here : (v : Verdict) (e : Ending) (r : Reason) → (answer_of e ≡ Err r → ⊥) → (answer_of (if_accepted v e) ≡ Err r) ↔ (v ≡ Err r)
+refused_here (Ok tt) e r never = ((λ a. absurd (never a)), (λ h. absurd (not_both (sym h))))
+refused_here (Err r') e r never = (judged, back)
   where
-    back : NotAccepted r' ≡ NotAccepted r → Refused r' ≡ Refused r
+    back : ◌≡◌ {A = Verdict} (Err r') (Err r) → ◌≡◌ {A = Answer} (Err r') (Err r)
     back h = cc
 
 -- one that the check never gives is given by what follows, once the check accepts
-pub refused_later : (v : Verdict) (e : Ending) (r : Reason) → (v ≡ NotAccepted r → ⊥)
-    → (answer_of (if_accepted v e) ≡ Refused r) ↔ ((v ≡ Accepted) × (answer_of e ≡ Refused r))
-refused_later Accepted e r never = ((λ a. (refl, a)), (λ h. h.1))
-refused_later (NotAccepted r') e r never = ((λ a. absurd (never (judged a))), (λ h. absurd (not_both h.0)))
+pub refused_later : (v : Verdict) (e : Ending) (r : Reason) → (v ≡ Err r → ⊥)
+    → (answer_of (if_accepted v e) ≡ Err r) ↔ ((v ≡ Accepted) × (answer_of e ≡ Err r))
+refused_later (Ok tt) e r never = ((λ a. (refl, a)), (λ h. h.1))
+refused_later (Err r') e r never = ((λ a. absurd (never (judged a))), (λ h. absurd (not_both h.0)))
 
-pub never_refused : (v : Verdict) (e : Ending) (r : Reason) → (v ≡ NotAccepted r → ⊥) → (answer_of e ≡ Refused r → ⊥) → answer_of (if_accepted v e) ≡ Refused r → ⊥
+pub never_refused : (v : Verdict) (e : Ending) (r : Reason) → (v ≡ Err r → ⊥) → (answer_of e ≡ Err r → ⊥) → answer_of (if_accepted v e) ≡ Err r → ⊥
 never_refused v e r not-here not-later a = not-later ((refused_later v e r not-here).0 a).1
 
 -- ---- conditions of several checks

@@ -1,11 +1,11 @@
 -- An answer and what is left, as those of an ending.
 -- Assumes nothing.
+use Rattle.refusal.specs.Answers.{Answer}
+use Rattle.std.specs.Prelude.{Err}
 use Prim.Native.Nat.{ℕ}
 use mathlib.Core.List.{List}
 use mathlib.Core.Path.{◌≡◌, refl}
 use Rattle.refusal.specs.declared.Reason.{Reason}
-use Rattle.refusal.specs.declared.Answer.{Answer}
-use Rattle.refusal.specs.declared.Answer.TheVariants.{Refused}
 use Rattle.best_order.specs.Endings.{Ending, refused, answer_of, buffer_of, table_of, LeavesTable}
 
 abbrev pub Ends : Ending → Answer → (table buffer table' buffer' : List ℕ) → Type 0
@@ -16,5 +16,5 @@ pub ends_as : {e e' : Ending} {answer : Answer} (table buffer table' : List ℕ)
 ends_as table buffer table' h x = rw h x
 
 -- a refusal that changes nothing
-pub ends_refused : {e : Ending} {r : Reason} (table buffer : List ℕ) → e ≡ refused r → Ends e (Refused r) table buffer table buffer
+pub ends_refused : {e : Ending} {r : Reason} (table buffer : List ℕ) → e ≡ refused r → Ends e (Err r) table buffer table buffer
 ends_refused table buffer h = rw h (refl, (refl, refl))

@@ -1,12 +1,13 @@
 -- The plan of a queue that has a best cost: it is valid, its message is read as it, and it is the best plan.
 -- Assumes nothing.
+use Rattle.refusal.specs.Answers.{Accepted}
+use Rattle.std.specs.Prelude.{Ok}
 use Prim.Native.Nat.{ℕ, ◌-◌, ◌^◌, ◌≤◌, ◌<◌}
 use mathlib.Core.List.{List}
 use mathlib.Core.Option.{some}
 use mathlib.Core.Path.{◌≡◌, refl, sym, ap, ◌∙◌}
 use native.Mathlib.Omega.{arith}
 use lib.ListN.{length, get_or}
-use Rattle.refusal.specs.declared.Verdict.TheVariants.{Accepted}
 use Rattle.queue.specs.declared.Queue.{Queue}
 use Rattle.queue.specs.Record.{Valid}
 use Rattle.plan.specs.Record.{job, job_list, Valid as PlanValid}

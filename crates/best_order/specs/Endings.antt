@@ -1,15 +1,12 @@
 -- The planning call: how it ends, and what a call that plans answers and leaves. After reading, all is a function of the record and the lent lengths.
-use Rattle.std.specs.Prelude.{ℕ, cond, List, ◌≡◌, ltb, length}
+use Rattle.queue.specs.Reading.{Reading}
+use Rattle.refusal.specs.Answers.{Answer, Verdict, Accepted}
+use Rattle.std.specs.Prelude.{ℕ, cond, List, ◌≡◌, ltb, length, Ok, Err}
 use Rattle.std.proofs.Math.Option.{Option, none, some}
 use Rattle.std.proofs.lemmas.List.Edits.{sets}
 use Rattle.refusal.specs.declared.Reason.{Reason}
 use Rattle.refusal.specs.declared.Reason.TheVariants.{Buffer, Table, NoOrder}
-use Rattle.refusal.specs.declared.Verdict.{Verdict}
-use Rattle.refusal.specs.declared.Verdict.TheVariants.{Accepted, Refused as NotAccepted}
-use Rattle.refusal.specs.declared.Answer.{Answer}
-use Rattle.refusal.specs.declared.Answer.TheVariants.{Planned, Refused}
 use Rattle.queue.specs.declared.Queue.{Queue}
-use Rattle.queue.specs.declared.Reading.{Reading}
 use Rattle.plan.specs.declared.Plan.{Plan}
 use Rattle.plan.specs.Reading.{plan_of}
 use Rattle.plan.specs.Writing.{message}
@@ -27,14 +24,14 @@ pub data Ending : Type 0 where
 
 -- a check comes first: its refusal, or else what follows
 abbrev pub if_accepted : Verdict → Ending → Ending
-if_accepted Accepted e = e
-if_accepted (NotAccepted r) e = refused r
+if_accepted (Ok tt) e = e
+if_accepted (Err r) e = refused r
 
 -- of what is lent: 15 for a plan buffer under 77 bytes, then 16 for a table under N × P entries, carrying N × P
 unfoldable pub room_verdict : (needed entries room : ℕ) → Verdict
 room_verdict needed n room =
-    cond (ltb room 77) (NotAccepted Buffer)
-    (cond (ltb n needed) (NotAccepted (Table needed))
+    cond (ltb room 77) (Err Buffer)
+    (cond (ltb n needed) (Err (Table needed))
     Accepted)
 
 -- the plan of a queue: its goal, the cost, the kept count, T and the recursion's order
@@ -56,9 +53,9 @@ ending read n room = if_accepted read.verdict (ending_of read.queue n room)
 
 -- the answer: the number of the plan's bytes, or the one refusal
 abbrev pub answer_of : Ending → Answer
-answer_of (refused r) = Refused r
-answer_of (unplannable q) = Refused NoOrder
-answer_of (planned q plan) = Planned (length plan)
+answer_of (refused r) = Err r
+answer_of (unplannable q) = Err NoOrder
+answer_of (planned q plan) = Ok (length plan)
 
 -- the buffer then: the plan, and bytes past it as they were; a refusal changes no byte
 abbrev pub buffer_of : Ending → List ℕ → List ℕ

@@ -1,7 +1,6 @@
 -- The planning call's contract: its answer, what it leaves in the lent table and buffer, what its refusals change, and demand 3.
 use Rattle.std.specs.Prelude.{ℕ, List, ◌≡◌, length}
-use Rattle.refusal.specs.declared.Answer.{Answer}
-use Rattle.refusal.specs.Answers.{answer_number}
+use Rattle.refusal.specs.Answers.{answer_number, Answer}
 use Rattle.queue.specs.Reading.{read_queue}
 use Rattle.best_order.specs.Endings.{Ending, ending, answer_of, buffer_of, table_of, LeavesTable}
 use Rattle.best_order.specs.BestOrder.{BestOrder}

@@ -1,5 +1,7 @@
 -- How splitting ends, check by check.
 -- Assumes nothing.
+use Rattle.refusal.specs.Answers.{Accepted}
+use Rattle.std.specs.Prelude.{Ok, Err}
 use Prim.Native.Nat.{ℕ, ◌≤◌, ◌<◌}
 use mathlib.Core.Bool.{true, false, not}
 use mathlib.Core.List.{List}
@@ -10,7 +12,6 @@ use lib.Dec.{T as Is, ltb}
 use borrow.Author.Tests.{lt-ltb, le-ltb, ltb-true, ltb-false, not-true, not-false}
 use Rattle.refusal.specs.declared.Reason.{Reason}
 use Rattle.refusal.specs.declared.Reason.TheVariants.{Uncovered, SecondStart}
-use Rattle.refusal.specs.declared.Verdict.TheVariants.{Accepted, Refused as NotAccepted}
 use Rattle.refusal.specs.Reasons.{reason_number}
 use Rattle.queue.specs.declared.Queue.{Queue}
 use Rattle.queue.specs.Reading.{read_queue}
@@ -32,11 +33,11 @@ module _ (q : Queue) (s : ℕ) where
   is_covered : Is (covers q) → covers q ≡ true
   is_covered c = same_test (covers q) true (λ _. tt) (λ _. c)
 
-  pub bench_uncovered : covers q ≡ false → bench_verdict q s ≡ NotAccepted Uncovered
+  pub bench_uncovered : covers q ≡ false → bench_verdict q s ≡ Err Uncovered
   unfolding bench_verdict
   bench_uncovered h = rw h
 
-  pub bench_second : Is (covers q) → q.kinds < s → bench_verdict q s ≡ NotAccepted SecondStart
+  pub bench_second : Is (covers q) → q.kinds < s → bench_verdict q s ≡ Err SecondStart
   unfolding bench_verdict
   bench_second c h = rw (is_covered c, lt-ltb q.kinds s h)
 
@@ -46,12 +47,12 @@ module _ (q : Queue) (s : ℕ) where
 
   -- what is refused is one of the two, under its condition
   pub bench_refusals : (S : Reason → Type 0) → (covers q ≡ false → S Uncovered) → (Is (covers q) → q.kinds < s → S SecondStart)
-      → (r : Reason) → bench_verdict q s ≡ NotAccepted r → S r
+      → (r : Reason) → bench_verdict q s ≡ Err r → S r
   unfolding bench_verdict
   bench_refusals S uncovered second = two_refusals Uncovered SecondStart (not (covers q)) (ltb q.kinds s) S
       (λ e. uncovered (not-true (covers q) e)) (λ e f. second (rw (not-false (covers q) e) tt) (ltb-true q.kinds s f))
 
-  pub bench_not : (r : Reason) → reason_number r ≢ 19 → reason_number r ≢ 20 → bench_verdict q s ≡ NotAccepted r → ⊥
+  pub bench_not : (r : Reason) → reason_number r ≢ 19 → reason_number r ≢ 20 → bench_verdict q s ≡ Err r → ⊥
   unfolding bench_verdict
   bench_not = two_not Uncovered SecondStart (not (covers q)) (ltb q.kinds s)
 
@@ -63,11 +64,11 @@ module _ (q : Queue) (s : ℕ) where
       (rw (not-false (covers q) e) tt, ltb-false q.kinds s f)
 
   -- each verdict exactly under its condition
-  pub uncovered_verdict : (bench_verdict q s ≡ NotAccepted Uncovered) ↔ (covers q ≡ false)
+  pub uncovered_verdict : (bench_verdict q s ≡ Err Uncovered) ↔ (covers q ≡ false)
   uncovered_verdict =
       ((λ a. bench_refusals (λ r. reason_number r ≡ 19 → covers q ≡ false) (λ c _. c) (λ _ _ e. absurd (omega arith)) Uncovered a refl), bench_uncovered)
 
-  pub second_verdict : (bench_verdict q s ≡ NotAccepted SecondStart) ↔ (Is (covers q) × (q.kinds < s))
+  pub second_verdict : (bench_verdict q s ≡ Err SecondStart) ↔ (Is (covers q) × (q.kinds < s))
   second_verdict = (
     (λ a. bench_refusals (λ r. reason_number r ≡ 20 → Is (covers q) × (q.kinds < s)) (λ _ e. absurd (omega arith)) (λ c l _. (c, l)) SecondStart a refl),
     (λ h. bench_second h.0 h.1),
@@ -82,7 +83,7 @@ module _ (q : Queue) (s : ℕ) where
   -- ---- what is asked, then what is lent
 
   module _ (n room : ℕ) where
-    pub bench_refused : (r : Reason) → bench_verdict q s ≡ NotAccepted r → split_ending_of q s n room ≡ refused r
+    pub bench_refused : (r : Reason) → bench_verdict q s ≡ Err r → split_ending_of q s n room ≡ refused r
     unfolding split_ending_of
     bench_refused r h = check_refused (divided_in q s n room) h
 
@@ -96,7 +97,7 @@ module _ (bytes : List ℕ) (s n room : ℕ) where
   abbrev q : Queue
   q = (read_queue bytes).queue
 
-  pub message_refused : (r : Reason) → (read_queue bytes).verdict ≡ NotAccepted r → split_ending (read_queue bytes) s n room ≡ refused r
+  pub message_refused : (r : Reason) → (read_queue bytes).verdict ≡ Err r → split_ending (read_queue bytes) s n room ≡ refused r
   unfolding split_ending
   message_refused r h = check_refused (split_ending_of q s n room) h
 

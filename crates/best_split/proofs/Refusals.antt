@@ -1,5 +1,7 @@
 -- Each of splitting's refusals is given exactly under its condition, and 17 never where nothing is forbidden.
 -- Assumes nothing.
+use Rattle.refusal.specs.Answers.{Answer, Accepted}
+use Rattle.std.specs.Prelude.{Ok, Err}
 use Prim.Native.Nat.{ℕ, ◌≤◌, ◌<◌}
 use mathlib.Core.Bool.{false}
 use mathlib.Core.List.{List}
@@ -9,9 +11,6 @@ use native.Mathlib.Omega.{arith}
 use lib.Dec.{T as Is}
 use Rattle.refusal.specs.declared.Reason.{Reason}
 use Rattle.refusal.specs.declared.Reason.TheVariants.{Buffer, Table, NoOrder, Uncovered, SecondStart}
-use Rattle.refusal.specs.declared.Verdict.TheVariants.{Accepted, Refused as NotAccepted}
-use Rattle.refusal.specs.declared.Answer.{Answer}
-use Rattle.refusal.specs.declared.Answer.TheVariants.{Refused}
 use Rattle.refusal.specs.Reasons.{reason_number}
 use Rattle.queue.specs.declared.Queue.{Queue}
 use Rattle.queue.specs.Reading.{read_queue}
@@ -47,18 +46,18 @@ module _ (s : List ℕ) (second n room : ℕ) where
 
   -- 19 and 20 are given by what is asked
   on_bench : (r : Reason) → reason_number r ≢ 15 → reason_number r ≢ 16 → reason_number r ≢ 17
-      → (answer_of (split_ending_of q second n room) ≡ Refused r) ↔ (bench_verdict q second ≡ NotAccepted r)
+      → (answer_of (split_ending_of q second n room) ≡ Err r) ↔ (bench_verdict q second ≡ Err r)
   unfolding split_ending_of
   on_bench r x y z = refused_here (bench_verdict q second) (divided_in q second n room) r (lent_not (entries (problem q)) n room last fills r x y z)
 
   -- 15 to 17 by what is lent and what is found, once two cutters can have the queue
-  past_bench : {F : Type 0} (r : Reason) → reason_number r ≢ 19 → reason_number r ≢ 20 → (answer_of (divided_in q second n room) ≡ Refused r) ↔ F
-      → (answer_of (split_ending_of q second n room) ≡ Refused r) ↔ (Is (covers q) × (second ≤ q.kinds) × F)
+  past_bench : {F : Type 0} (r : Reason) → reason_number r ≢ 19 → reason_number r ≢ 20 → (answer_of (divided_in q second n room) ≡ Err r) ↔ F
+      → (answer_of (split_ending_of q second n room) ≡ Err r) ↔ (Is (covers q) × (second ≤ q.kinds) × F)
   unfolding split_ending_of
   past_bench r x y = then_both (refused_later (bench_verdict q second) (divided_in q second n room) r (bench_not q second r x y)) (bench_verdict_lem q second)
 
   -- 1 to 14: the message's own refusal, and no other message is refused so
-  pub message_exactly : (r : Reason) → QueueRefusal r → (answer ≡ Refused r) ↔ ((read_queue s).verdict ≡ NotAccepted r)
+  pub message_exactly : (r : Reason) → QueueRefusal r → (answer ≡ Err r) ↔ ((read_queue s).verdict ≡ Err r)
   unfolding split_ending split_ending_of
   message_exactly r own =
       let m = queue_of_message r own in
@@ -67,32 +66,32 @@ module _ (s : List ℕ) (second n room : ℕ) where
       (lent_not (entries (problem q)) n room last fills r m.not_buffer m.not_table m.not_order))
 
   -- 19
-  pub uncovered_exactly : (answer ≡ Refused Uncovered) ↔ (((read_queue s).verdict ≡ Accepted) × (covers q ≡ false))
+  pub uncovered_exactly : (answer ≡ Err Uncovered) ↔ (((read_queue s).verdict ≡ Accepted) × (covers q ≡ false))
   unfolding split_ending split_ending_of
   uncovered_exactly = then (after_message s (split_ending_of q second n room) Uncovered (λ own. own.not_uncovered refl))
       (λ _. through (on_bench Uncovered (omega arith) (omega arith) (omega arith)) (uncovered_verdict q second))
 
   -- 20
-  pub second_exactly : (answer ≡ Refused SecondStart) ↔ (((read_queue s).verdict ≡ Accepted) × (Is (covers q) × (q.kinds < second)))
+  pub second_exactly : (answer ≡ Err SecondStart) ↔ (((read_queue s).verdict ≡ Accepted) × (Is (covers q) × (q.kinds < second)))
   unfolding split_ending split_ending_of
   second_exactly = then (after_message s (split_ending_of q second n room) SecondStart (λ own. own.not_second refl))
       (λ _. through (on_bench SecondStart (omega arith) (omega arith) (omega arith)) (second_verdict q second))
 
   -- 15
-  pub buffer_exactly : (answer ≡ Refused Buffer) ↔ (((read_queue s).verdict ≡ Accepted) × Is (covers q) × (second ≤ q.kinds) × (room < 77))
+  pub buffer_exactly : (answer ≡ Err Buffer) ↔ (((read_queue s).verdict ≡ Accepted) × Is (covers q) × (second ≤ q.kinds) × (room < 77))
   unfolding split_ending split_ending_of
   buffer_exactly = then_three (after_message s (split_ending_of q second n room) Buffer (λ own. own.not_buffer refl))
       (λ _. past_bench Buffer (omega arith) (omega arith) (lent_buffer (entries (problem q)) n room last fills))
 
   -- 16, with N × P
-  pub table_exactly : (needed : ℕ) → (answer ≡ Refused (Table needed))
+  pub table_exactly : (needed : ℕ) → (answer ≡ Err (Table needed))
       ↔ (((read_queue s).verdict ≡ Accepted) × Is (covers q) × (second ≤ q.kinds) × ((77 ≤ room) × (n < entries (problem q)) × (needed ≡ entries (problem q))))
   unfolding split_ending split_ending_of
   table_exactly needed = then_three (after_message s (split_ending_of q second n room) (Table needed) (λ own. own.not_table refl))
       (λ _. past_bench (Table needed) (omega arith) (omega arith) (lent_table (entries (problem q)) n room last fills needed))
 
   -- 17
-  pub order_exactly : (answer ≡ Refused NoOrder)
+  pub order_exactly : (answer ≡ Err NoOrder)
       ↔ (((read_queue s).verdict ≡ Accepted) × Is (covers q) × (second ≤ q.kinds) × ((77 ≤ room) × (entries (problem q) ≤ n)
       × ((o₁ o₂ : List ℕ) → IsSplit (problem q) o₁ o₂ → SplitPermitted (problem q) second o₁ o₂ → ⊥)))
   unfolding split_ending split_ending_of
@@ -101,7 +100,7 @@ module _ (s : List ℕ) (second n room : ℕ) where
       (lent_none (entries (problem q)) n room last fills (through (cost_none (divided_by_cost q second) (taken_cost (problem q) second)) (no_split_lem (problem q) (proper q (accepted_valid s h)) second))))
 
   -- so never where nothing is forbidden
-  pub never_17 : NoneForbidden (problem q) → answer ≢ Refused NoOrder
+  pub never_17 : NoneForbidden (problem q) → answer ≢ Err NoOrder
   never_17 free a =
       let (h, c, l, x) = order_exactly.0 a in
       let v = accepted_valid s h in

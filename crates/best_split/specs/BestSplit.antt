@@ -1,7 +1,7 @@
 -- The best split: what splitting promises of every accepted message without 19 and 20, with a table of at least N × P entries and a buffer of at least
 -- 77 bytes, whatever they hold.
-use Rattle.std.specs.Prelude.{ℕ, ◌*◌, ◌≤◌, List, ◌↔◌, ◌≢◌, ◌≡◌, T as Is, length, take, drop}
-use Rattle.refusal.specs.declared.Verdict.TheVariants.{Accepted}
+use Rattle.refusal.specs.Answers.{Accepted}
+use Rattle.std.specs.Prelude.{ℕ, ◌*◌, ◌≤◌, List, ◌↔◌, ◌≢◌, ◌≡◌, T as Is, length, take, drop, Ok}
 use Rattle.queue.specs.declared.Queue.{Queue}
 use Rattle.queue.specs.Reading.{read_queue}
 use Rattle.split_plan.specs.declared.SplitPlan.{SplitPlan}

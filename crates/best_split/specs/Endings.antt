@@ -1,12 +1,10 @@
 -- The splitting call: how it ends. After reading, all is a function of the record, the second cutter's start kind and the lent lengths.
-use Rattle.std.specs.Prelude.{ℕ, not, cond, List, ltb, length}
+use Rattle.refusal.specs.Answers.{Verdict, Accepted}
+use Rattle.std.specs.Prelude.{ℕ, not, cond, List, ltb, length, Ok, Err}
 use Rattle.std.proofs.Math.Option.{Option, none, some}
 use Rattle.refusal.specs.declared.Reason.TheVariants.{Uncovered, SecondStart}
-use Rattle.refusal.specs.declared.Verdict.{Verdict}
-use Rattle.refusal.specs.declared.Verdict.TheVariants.{Accepted, Refused as NotAccepted}
 use Rattle.queue.specs.declared.Queue.{Queue}
-use Rattle.queue.specs.declared.Reading.{Reading}
-use Rattle.queue.specs.Reading.{read_queue}
+use Rattle.queue.specs.Reading.{Reading, read_queue}
 use Rattle.split_plan.specs.declared.SplitPlan.{SplitPlan}
 use Rattle.split_plan.specs.Record.{split_of}
 use Rattle.split_plan.specs.Writing.{message}
@@ -19,8 +17,8 @@ use Rattle.best_order.specs.Endings.{Ending, unplannable, planned, if_accepted, 
 -- of two cutters: 19 where the shift plus 1 is under T or a kind's allowed places do not cover 1 to T, then 20 for a second start over N
 unfoldable pub bench_verdict : Queue → (second : ℕ) → Verdict
 bench_verdict q s =
-    cond (not (covers q)) (NotAccepted Uncovered)
-    (cond (ltb q.kinds s) (NotAccepted SecondStart)
+    cond (not (covers q)) (Err Uncovered)
+    (cond (ltb q.kinds s) (Err SecondStart)
     Accepted)
 
 -- the split plan of a queue: its goal, the cost, and both cutters' jobs in the split taken

@@ -1,7 +1,6 @@
 -- The splitting call's contract: its answer, what it leaves in the lent table and buffer, what its refusals change, and S-1's promise.
 use Rattle.std.specs.Prelude.{ℕ, List, ◌≡◌}
-use Rattle.refusal.specs.declared.Answer.{Answer}
-use Rattle.refusal.specs.Answers.{answer_number}
+use Rattle.refusal.specs.Answers.{answer_number, Answer}
 use Rattle.best_order.specs.Endings.{answer_of, buffer_of, table_of, LeavesTable}
 use Rattle.best_order.specs.Changes.{Changes}
 use Rattle.best_split.specs.Endings.{split_ending_on}

@@ -3,7 +3,7 @@
 
 use plan::Plan;
 use queue::Queue;
-use refusal::{Answer, Reason, Verdict};
+use refusal::Reason;
 use std::io;
 
 // The queue message of a goal and a shift: 01's numbers of chapter 5, goal and shift at bytes 4 and 5.
@@ -15,63 +15,39 @@ fn message_of(goal: u8, shift: u8) -> [u8; 48] {
     message
 }
 
-// A number, and what separates it from what follows.
-fn print_number(rt: &impl Print, value: u64, end: &str) -> io::Result<()> {
-    print!(rt; "{value}{end}")
-}
-
-// A job, after a space.
-fn print_job(rt: &impl Print, job: u8) -> io::Result<()> {
-    print!(rt; " {job}")
-}
-
-// The job at each place.
-fn print_jobs(rt: &impl Print, queue: Queue, plan: Plan) -> io::Result<()> {
-    let mut place: u32 = 0;
-    while place < plan.jobs {
-        place = place + 1;
-        let line = plan_lines::line_at(queue, plan, place);
-        print_job(rt, line.job)?;
-    }
-    Ok(())
-}
-
-// A refusal's number: none is expected.
-fn print_refusal(rt: &impl Print, reason: Reason) -> io::Result<()> {
-    print!(rt; "refused ")?;
-    print_number(rt, refusal::reason_number(reason), "\n")
-}
-
-// The plan that was written.
-fn print_plan(rt: &impl Print, message: &[u8], bytes: &[u8]) -> io::Result<()> {
-    let made = plan_reader::read_plan(bytes);
-    let verdict = made.verdict;
-    match verdict {
-        Verdict::Refused(why) => print_refusal(rt, why),
-        Verdict::Accepted => {
-            let plan = made.plan;
-            print!(rt; "cost ")?;
-            print_number(rt, plan.cost, " kept ")?;
-            print_number(rt, plan.feasible_states, "\n")?;
-            print!(rt; "order")?;
-            let reading = queue_reader::read_queue(message);
-            print_jobs(rt, reading.queue, plan)?;
-            println!(rt)
-        }
-    }
-}
-
-// Plans at one goal and shift, in a table of the 630 entries that the example needs.
-fn run(rt: &impl Print, goal: u8, shift: u8) -> io::Result<()> {
-    let message = message_of(goal, shift);
+// The queue of a message and its plan, or the refusal, in a table of the 630 entries that the example needs.
+fn plan_message(message: &[u8]) -> Result<(Queue, Plan), Reason> {
     let mut table = [0u64; 630];
     let mut buffer = [0u8; 77];
-    print!(rt; "shift ")?;
-    print_number(rt, shift as u64, " goal ")?;
-    print_number(rt, goal as u64, "\n")?;
-    match planner::plan(&message, &mut table, &mut buffer) {
-        Answer::Refused(why) => print_refusal(rt, why),
-        Answer::Planned(n) => print_plan(rt, &message, planner::written_plan(&buffer, n)),
+    let bytes = planner::plan(message, &mut table, &mut buffer)?;
+    let plan = plan_reader::read_plan(planner::written_plan(&buffer, bytes))?;
+    let queue = queue_reader::read_queue(message)?;
+    Ok((queue, plan))
+}
+
+// A plan's cost and kept count, then the job at each place.
+fn print_plan(rt: &impl Print, queue: Queue, plan: Plan) -> io::Result<()> {
+    let cost = plan.cost;
+    let kept = plan.feasible_states;
+    println!(rt; "cost {cost} kept {kept}")?;
+    print!(rt; "order")?;
+    for place in 0..plan.jobs {
+        let line = plan_lines::line_at(queue, plan, place + 1);
+        let job = line.job;
+        print!(rt; " {job}")?;
+    }
+    println!(rt)
+}
+
+// Plans at one goal and shift; no refusal is expected.
+fn run(rt: &impl Print, goal: u8, shift: u8) -> io::Result<()> {
+    println!(rt; "shift {shift} goal {goal}")?;
+    match plan_message(&message_of(goal, shift)) {
+        Ok((queue, plan)) => print_plan(rt, queue, plan),
+        Err(why) => {
+            let number = why.number();
+            println!(rt; "refused {number}")
+        }
     }
 }
 

@@ -1,5 +1,7 @@
 -- The three ways of writing a message: a refused record, a short buffer, a written message.
 -- Assumes nothing.
+use Rattle.refusal.specs.Answers.{Verdict, Written, Accepted}
+use Rattle.std.specs.Prelude.{Ok, Err}
 use Prim.Native.Nat.{ℕ, ◌<◌, ◌≤◌}
 use mathlib.Core.Path.{◌≡◌, refl, ap}
 use mathlib.Core.List.{List}
@@ -8,20 +10,16 @@ use lib.Seq.{sets}
 use borrow.Author.Tests.{le-leb, lt-leb}
 use Rattle.refusal.specs.declared.Reason.{Reason}
 use Rattle.refusal.specs.declared.Reason.TheVariants.{Buffer}
-use Rattle.refusal.specs.declared.Verdict.{Verdict}
-use Rattle.refusal.specs.declared.Verdict.TheVariants.{Accepted, Refused}
-use Rattle.refusal.specs.declared.Written.{Written}
-use Rattle.refusal.specs.declared.Written.TheVariants.{Bytes, Refused as NotWritten}
 use Rattle.fields.specs.Messages.{write_answer, buffer_after}
 
 -- records that get one verdict, and one message where it accepts, are written alike
 pub written_alike : (least : ℕ) (v w : Verdict) (message message' : List ℕ) → v ≡ w → (w ≡ Accepted → message ≡ message')
     → (room : ℕ) (buffer : List ℕ) → (write_answer least v room message ≡ write_answer least w room message')
     × (buffer_after (write_answer least v room message) message buffer ≡ buffer_after (write_answer least w room message') message' buffer)
-written_alike least v Accepted message message' e alike room buffer =
+written_alike least v (Ok tt) message message' e alike room buffer =
     let same = alike refl in
     (rw e (ap (write_answer least Accepted room) same), rw e (ap (λ (s : List ℕ). buffer_after (write_answer least Accepted room s) s buffer) same))
-written_alike least v (Refused r) message message' e alike room buffer = (rw e, rw e)
+written_alike least v (Err r) message message' e alike room buffer = (rw e, rw e)
 
 -- a writer's answer, and the buffer after it
 abbrev pub Answered : ℕ → Verdict → List ℕ → List ℕ → Written → List ℕ → Type 0
@@ -29,13 +27,13 @@ Answered least verdict message buffer answer after =
     let due = write_answer least verdict (length buffer) message in (answer ≡ due) × (after ≡ buffer_after due message buffer)
 
 module _ (least : ℕ) (verdict : Verdict) (message buffer : List ℕ) where
-  pub record_refused : (r : Reason) → verdict ≡ Refused r → Answered least verdict message buffer (NotWritten r) buffer
+  pub record_refused : (r : Reason) → verdict ≡ Err r → Answered least verdict message buffer (Err r) buffer
   record_refused r e = (rw e, rw e)
 
   module _ (e : verdict ≡ Accepted) where
-    pub buffer_short : length buffer < least → Answered least verdict message buffer (NotWritten Buffer) buffer
+    pub buffer_short : length buffer < least → Answered least verdict message buffer (Err Buffer) buffer
     buffer_short h = (rw (e, lt-leb least (length buffer) h), rw (e, lt-leb least (length buffer) h))
 
     pub message_written : least ≤ length buffer → (n : ℕ) (after : List ℕ) → (n ≡ length message) × (after ≡ sets buffer 0 message)
-        → Answered least verdict message buffer (Bytes n) after
+        → Answered least verdict message buffer (Ok n) after
     message_written h n after w = (rw (w.0, e, le-leb least (length buffer) h), rw (w.1, e, le-leb least (length buffer) h))

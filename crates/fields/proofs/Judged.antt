@@ -1,21 +1,17 @@
 -- What a judged number is.
 -- Assumes nothing.
 use Prim.Native.Nat.{ℕ, ◌<◌, ◌≤◌}
-use mathlib.Core.Path.{◌≡◌, refl, ap, ◌∙◌}
+use mathlib.Core.Path.{◌≡◌, refl, ◌∙◌}
 use mathlib.Core.Bool.{Bool, true, false, cond, ◌&&◌, false≢true}
 use mathlib.Core.Logic.{inl, inr}
 use mathlib.Core.List.{List}
-use native.Mathlib.Omega.{arith}
 use lib.Dec.{leb}
 use borrow.Author.Tests.{le-leb, lt-leb, leb-true}
 use Rattle.refusal.specs.declared.Reason.{Reason}
-use Rattle.number.specs.Readers.{Found, found, refused}
+use Rattle.number.specs.Readers.{found, refused}
 use Rattle.number.specs.Numbers.{number}
 use Rattle.number.proofs.Steps.{went_on, passed, found_value, bool_cases}
-use Rattle.fields.specs.declared.Field.TheVariants.{Value, Refused}
-use Rattle.fields.specs.declared.Outcome.TheVariants.{Next, Refused as Stopped}
 use Rattle.fields.specs.Fields.{field, within}
-use Rattle.fields.specs.Answers.{as_field, as_outcome}
 
 pub and_true : (a b : Bool) → a && b ≡ true → (a ≡ true) × (b ≡ true)
 and_true true b e = (refl, e)
@@ -46,20 +42,3 @@ field_found g ok why s at v n e =
 pub found_field : (g : ℕ) (ok : ℕ → Bool) (why : Reason) (s : List ℕ) (at v n : ℕ) → number g s at ≡ found v n → ok v ≡ true
     → field g ok why s at ≡ found v n
 found_field g ok why s at v n e t = rw (e, t)
-
--- what the code's answers say of the definitions'
-pub as_value : (f : Found ℕ) (v n : ℕ) → as_field f ≡ Value v n → f ≡ found v n
-as_value (found w m) v n e = cc
-as_value (refused r) v n e = let z : ◌≡◌ {A = ℕ} 0 1 = cc in absurd (omega arith)
-
-pub as_refused : (f : Found ℕ) (r : Reason) → as_field f ≡ Refused r → f ≡ refused r
-as_refused (found w m) r e = let z : ◌≡◌ {A = ℕ} 0 1 = cc in absurd (omega arith)
-as_refused (refused q) r e = cc
-
-pub as_next : {A : Type 0} (f : Found A) (n : ℕ) → as_outcome f ≡ Next n → (a : A) × (f ≡ found a n)
-as_next (found a m) n e = let q : m ≡ n = cc in (a, ap (found a) q)
-as_next (refused r) n e = let z : ◌≡◌ {A = ℕ} 0 1 = cc in absurd (omega arith)
-
-pub as_stopped : {A : Type 0} (f : Found A) (r : Reason) → as_outcome f ≡ Stopped r → f ≡ refused r
-as_stopped (found a m) r e = let z : ◌≡◌ {A = ℕ} 0 1 = cc in absurd (omega arith)
-as_stopped (refused q) r e = cc

@@ -4,8 +4,8 @@ pub mod Judged
 pub mod Local
 pub mod Orders
 pub mod Runs
-pub mod Loops
 pub mod Parts
+pub mod Loops
 pub mod Seeking
 pub mod Pieces
 pub mod Answering

@@ -7,15 +7,14 @@ use mathlib.Core.Logic.{◌↔◌}
 use mathlib.Core.List.{List, [], ◌∷◌, ◌++◌, append_assoc, append-nil}
 use native.Mathlib.Omega.{arith}
 use lib.ListN.{length, get_or, take}
-use Rattle.number.specs.Readers.{Found, found, refused, Reader, and_then, times}
+use Rattle.number.specs.Readers.{Found, found, refused, Reader, and_then, times, behind}
 use Rattle.fields.specs.Fields.{all}
 use Rattle.fields.specs.Orders.{in_order, all_in_order, followed_by}
-use Rattle.fields.specs.Answers.{as_outcome}
 use Rattle.fields.proofs.Judged.{and_true}
 use Rattle.fields.proofs.Local.{and_same}
 
 -- a step that goes on does not change how the run ends
-pub outcome_more : {A B : Type 0} (f : Found A) (g : A → B) → as_outcome (and_then f (λ a j. found (g a) j)) ≡ as_outcome f
+pub outcome_more : {A B : Type 0} (f : Found A) (g : A → B) → behind (and_then f (λ a j. found (g a) j)) ≡ behind f
 outcome_more (found a n) g = refl
 outcome_more (refused r) g = refl
 

@@ -1,12 +1,14 @@
 -- What is listed of a run up to its first refusal: of any such list, of things in order, and of a run that was found.
 -- Assumes nothing.
-use Prim.Native.Nat.{ℕ, zero, suc}
+use Prim.Native.Nat.{ℕ, zero, suc, ◌≤◌}
 use mathlib.Core.Path.{◌≡◌, refl, sym, ◌∙◌}
 use mathlib.Core.List.{List, [], ◌∷◌}
+use native.Mathlib.Omega.{arith}
+use lib.ListN.{length}
 use Rattle.refusal.specs.declared.Reason.{Reason}
-use Rattle.number.specs.Readers.{found, refused, Reader, and_then, times}
+use Rattle.number.specs.Readers.{Found, found, refused, Reader, and_then, times}
 use Rattle.number.proofs.Steps.{went_on, found_value}
-use Rattle.fields.specs.Orders.{in_order, in_order_before, read_before}
+use Rattle.fields.specs.Orders.{in_order, in_order_before, read_before, thereafter}
 use Rattle.fields.proofs.Orders.{kept, times_in_order}
 
 -- `before n state i` lists n things from position i on; `cut i` is what a refused one adds to the list
@@ -36,3 +38,17 @@ in_order_lem one step s = record { none = λ state i. refl; more = λ n state i 
 pub before_found : {A : Type 0} (one : Reader A) (s : List ℕ) (n i : ℕ) (xs : List A) (j : ℕ) → times n one s i ≡ found xs j
     → read_before n one s i ≡ xs
 before_found one s n i xs j e = all_listed (in_order_lem (λ _. one) kept s) n tt i xs j (sym (times_in_order one n s i) ∙ e)
+
+few_before : {S A : Type 0} (one : S → Reader A) (step : S → A → S) (n : ℕ) (state : S) (s : List ℕ) (i : ℕ) → length (in_order_before one step n state s i) ≤ n
+unfolding in_order_before
+few_before one step zero state s i = omega arith
+few_before {S} {A} one step (suc n) state s i = go (one state s i) (λ a j. few_before one step n (step state a) s j)
+  where
+    go : (f : Found A) → ((a : A) (j : ℕ) → length (in_order_before one step n (step state a) s j) ≤ n)
+        → length (thereafter f (λ a j. a ∷ in_order_before one step n (step state a) s j)) ≤ suc n
+    go (found a j) few = omega (arith, few a j)
+    go (refused r) few = omega arith
+
+-- .. and no more than the run has
+pub before_few : {A : Type 0} (n : ℕ) (one : Reader A) (s : List ℕ) (i : ℕ) → length (read_before n one s i) ≤ n
+before_few n one s i = few_before (λ _. one) (λ _ _. tt) n tt s i

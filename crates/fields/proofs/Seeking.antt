@@ -1,14 +1,12 @@
--- Whether a number stands in a list: by its places, and the loop that seeks it.
+-- Whether a number stands in a list, by its places.
 -- Assumes nothing.
-use Prim.Native.Nat.{ℕ, zero, suc, ◌+◌, ◌<◌, ◌≤◌}
+use Prim.Native.Nat.{ℕ, zero, suc, ◌<◌}
 use mathlib.Core.Path.{◌≡◌, refl, sym, ◌∙◌}
 use mathlib.Core.Bool.{Bool, true, false, ◌||◌, false≢true}
 use mathlib.Core.List.{List, [], ◌∷◌}
 use native.Mathlib.Omega.{arith}
-use native.Mathlib.Numerals.{add-one}
 use lib.Dec.{eqb}
-use lib.ListN.{length, get_or, drop, drop_of_length-le}
-use lib.Seq.{drop-cons}
+use lib.ListN.{length, get_or}
 use borrow.Author.Tests.{eq-eqb, ne_eqb}
 use Rattle.fields.specs.Lists.{stands_in}
 
@@ -28,25 +26,3 @@ unfolding stands_in
 nowhere_stands j [] h = refl
 nowhere_stands j (i ∷ l) h =
     rw (ne_eqb j i (λ q. h 0 (omega arith) (sym q)), nowhere_stands j l (λ k u q. h (suc k) (omega arith) q))
-
--- ---- the loop before element k
-
-pub record Seeking (xs : List ℕ) (v k : ℕ) : Type 0 where
-  pub means : stands_in v xs ≡ stands_in v (drop k xs)
-
-pub seek_none : {xs : List ℕ} {v : ℕ} → Seeking xs v 0
-seek_none = record { means = refl }
-
-module _ {xs : List ℕ} {v k : ℕ} (w : Seeking xs v k) where
-  pub seek_done : length xs ≤ k → false ≡ stands_in v xs
-  unfolding stands_in
-  seek_done h = sym (w.means ∙ rw (drop_of_length-le xs h))
-
-  module _ (i : ℕ) (l : k < length xs) (here : get_or xs k 0 ≡ i) where
-    pub seek_here : i ≡ v → true ≡ stands_in v xs
-    unfolding stands_in
-    seek_here e = sym (w.means ∙ rw (drop-cons xs k 0 l, here, eq-eqb v i (sym e)))
-
-    pub seek_more : (i ≡ v → ⊥) → Seeking xs v (k + 1)
-    unfolding stands_in
-    seek_more e = record { means = w.means ∙ rw (drop-cons xs k 0 l, here, ne_eqb v i (λ p. e (sym p)), add-one k) }

@@ -1,5 +1,6 @@
 -- A writer's promise, from its answer, from what it leaves in the buffer, and from its message's laws.
 -- Assumes nothing.
+use Rattle.std.specs.Prelude.{Ok, Err}
 use Prim.Native.Nat.{ℕ, ◌≤◌}
 use mathlib.Core.Path.{◌≡◌, refl, sym, ap, ◌∙◌}
 use mathlib.Core.Bool.{Bool, true, false, cond}
@@ -13,11 +14,7 @@ use lib.Seq.{sets, sets-eq, length-sets, take-append_seam, drop-append_seam}
 use borrow.Author.Tests.{le-leb, leb-true}
 use Rattle.refusal.specs.declared.Reason.{Reason}
 use Rattle.refusal.specs.declared.Reason.TheVariants.{Buffer}
-use Rattle.refusal.specs.declared.Verdict.{Verdict}
-use Rattle.refusal.specs.declared.Verdict.TheVariants.{Accepted, Refused}
-use Rattle.refusal.specs.declared.Written.{Written}
-use Rattle.refusal.specs.declared.Written.TheVariants.{Bytes as Wrote, Refused as NotWritten}
-use Rattle.refusal.specs.Answers.{written_number, refusal_of}
+use Rattle.refusal.specs.Answers.{written_number, refusal_of, Verdict, Written, Accepted}
 use Rattle.fields.specs.Lists.{Bytes}
 use Rattle.fields.specs.Messages.{write_answer, buffer_after}
 use Rattle.fields.specs.Writers.{Writes}
@@ -35,14 +32,14 @@ module _ (s buffer : List ℕ) (h : length s ≤ length buffer) where
   behind = ap (drop (length s)) parts ∙ drop-append_seam s (drop (length s) buffer)
 
 -- so many bytes are answered only of an accepted record and a buffer that is long enough
-was_written : (least : ℕ) (v : Verdict) (room : ℕ) (message : List ℕ) (n : ℕ) → write_answer least v room message ≡ Wrote n
+was_written : (least : ℕ) (v : Verdict) (room : ℕ) (message : List ℕ) (n : ℕ) → write_answer least v room message ≡ Ok n
     → (v ≡ Accepted) × (leb least room ≡ true)
-was_written least Accepted room message n e = (refl, roomy (leb least room) e)
+was_written least (Ok tt) room message n e = (refl, roomy (leb least room) e)
   where
-    roomy : (b : Bool) → cond b (Wrote (length message)) (NotWritten Buffer) ≡ Wrote n → b ≡ true
+    roomy : (b : Bool) → cond b (Ok (length message)) (Err Buffer) ≡ Ok n → b ≡ true
     roomy true e = refl
     roomy false e = let z : ◌≡◌ {A = ℕ} 0 1 = cc in absurd (omega arith)
-was_written least (Refused r) room message n e = let z : ◌≡◌ {A = ℕ} 0 1 = cc in absurd (omega arith)
+was_written least (Err r) room message n e = let z : ◌≡◌ {A = ℕ} 0 1 = cc in absurd (omega arith)
 
 module _ {R : Type 0} (least : ℕ) (Valid : R → Type 0) (Same : R → R → Type 0) (verdict : List ℕ → Verdict) (record_of : List ℕ → R)
     (judge : R → Verdict) (message : R → List ℕ) where
@@ -59,14 +56,14 @@ module _ {R : Type 0} {least : ℕ} {Valid : R → Type 0} {Same : R → R → T
     {judge : R → Verdict} {message : R → List ℕ} (L : Laws least Valid Same verdict record_of judge message)
     (r : R) (buffer buffer' : List ℕ) (answer : Written) (a : Answered least (judge r) (message r) buffer answer buffer') where
   -- a refusal leaves the buffer
-  left : (why : Reason) → answer ≡ NotWritten why → buffer' ≡ buffer
+  left : (why : Reason) → answer ≡ Err why → buffer' ≡ buffer
   left why e = a.1 ∙ ap (λ (d : Written). buffer_after d (message r) buffer) (sym a.0 ∙ e)
 
   -- a valid record and room for it
   module _ (v : Valid r) (h : least ≤ length buffer) where
-    wrote : (answer ≡ Wrote (length (message r))) × (buffer' ≡ sets buffer 0 (message r))
+    wrote : (answer ≡ Ok (length (message r))) × (buffer' ≡ sets buffer 0 (message r))
     wrote =
-        let due : write_answer least (judge r) (length buffer) (message r) ≡ Wrote (length (message r)) =
+        let due : write_answer least (judge r) (length buffer) (message r) ≡ Ok (length (message r)) =
         rw ((L.accepts r).1 v, le-leb least (length buffer) h) in
         (a.0 ∙ due, a.1 ∙ ap (λ (d : Written). buffer_after d (message r) buffer) due)
 
@@ -76,7 +73,7 @@ module _ {R : Type 0} {least : ℕ} {Valid : R → Type 0} {Same : R → R → T
     taken : take (length (message r)) buffer' ≡ message r
     taken = ap (take (length (message r))) wrote.1 ∙ stands (message r) buffer fits
 
-  told : (n : ℕ) → answer ≡ Wrote n → Valid r × (least ≤ length buffer)
+  told : (n : ℕ) → answer ≡ Ok n → Valid r × (least ≤ length buffer)
   told n e =
       let w = was_written least (judge r) (length buffer) (message r) n (sym a.0 ∙ e) in
       ((L.accepts r).0 w.0, leb-true least (length buffer) w.1)
@@ -101,8 +98,8 @@ module _ {R : Type 0} {least : ℕ} {Valid : R → Type 0} {Same : R → R → T
   }
     where
       go : (w : Written) → answer ≡ w → refusal_of (written_number answer) ≢ 0 → buffer' ≡ buffer
-      go (Wrote n) e other = absurd (other (rw e (omega arith)))
-      go (NotWritten why) e other = left why e
+      go (Ok n) e other = absurd (other (rw e (omega arith)))
+      go (Err why) e other = left why e
 
-      bytes_same : {m n : ℕ} → Wrote m ≡ Wrote n → m ≡ n
+      bytes_same : {m n : ℕ} → ◌≡◌ {A = Written} (Ok m) (Ok n) → m ≡ n
       bytes_same e = cc

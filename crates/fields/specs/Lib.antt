@@ -3,4 +3,3 @@ pub mod Fields
 pub mod Messages
 pub mod Writers
 pub mod Orders
-pub mod Answers

@@ -1,7 +1,6 @@
 -- Runs in which each thing is judged by those before it. What those left is a state, which each thing takes one step further.
+use Rattle.refusal.specs.Answers.{Verdict, Accepted}
 use Rattle.std.specs.Prelude.{ℕ, zero, suc, Bool, true, ◌&&◌, List, [], ◌∷◌, ◌++◌}
-use Rattle.refusal.specs.declared.Verdict.{Verdict}
-use Rattle.refusal.specs.declared.Verdict.TheVariants.{Accepted}
 use Rattle.number.specs.Readers.{Found, found, refused, Reader, and_then}
 use Rattle.fields.specs.Messages.{◌before◌}
 

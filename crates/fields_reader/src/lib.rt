@@ -1,112 +1,66 @@
-// What every message is read with: its opening, the numbers of it, each judged as it is read, and runs of them.
+// What every message is read with: its opening, its end, the numbers of it, each judged as it is read, and runs of them.
 #![tactic(auto)]
 
-ghost use Rattle.std.specs.Prelude.{◌≡◌, ◌+◌, ◌≤◌, length, get_or};
+ghost use Rattle.std.specs.Prelude.{◌≡◌, ◌≤◌, length, get_or};
 ghost use Rattle.std.proofs.lemmas.List.Edits.{sets};
-ghost use Rattle.number.specs.Readers.{times};
+ghost use Rattle.number.specs.Readers.{times, behind};
+ghost use Rattle.number.specs.Inputs.{Reads};
 ghost use Rattle.fields.specs.Fields.{field, within};
 ghost use Rattle.fields.specs.Orders.{read_before};
-ghost use Rattle.fields.specs.Messages.{opens};
-ghost use Rattle.fields.specs.Answers.{as_field, as_outcome};
+ghost use Rattle.fields.specs.Messages.{opens, opening, end};
 
-use fields::{Field, Outcome};
-use number::Read;
+use fields::Held;
+use number::Input;
 use refusal::Reason;
 
 // Whether the bytes begin with a message's opening.
 pub fn has_opening(bytes: &[u8], opening: &[u8; 2]) -> bool
     ensures { result ≡ opens (get_or opening.now 0 0) (get_or opening.now 1 0) bytes.now }
 {
-    if bytes.len() < 2 {
-        return false;
-    }
-    if bytes[0] != opening[0] {
-        return false;
-    }
-    if bytes[1] != opening[1] {
-        return false;
-    }
-    true
+    bytes.starts_with(opening)
 }
 
-// The number of at most three groups at `at`, from `low` to `high`; any other is refused as `why`.
-pub fn read_field(bytes: &[u8], at: usize, low: u32, high: u32, why: Reason) -> Field
-    ensures { result ≡ as_field (field 3 (within low high) why bytes.now at) }
+// A message's opening, wherever the input stands.
+pub fn read_opening(input: &mut Input, two: &[u8; 2]) -> Result<(), Reason>
+    ensures { Reads (opening (get_or two.now 0 0) (get_or two.now 1 0)) input.old input.new result }
 {
-    match number::read_number(bytes, at, 3) {
-        Read::Value { value, next } => {
-            if !fields::is_within(value, low as u64, high as u64) {
-                return Field::Refused(why);
-            }
-            Field::Value {
-                value: value as u32,
-                next,
-            }
-        }
-        Read::Refused(reason) => Field::Refused(reason),
-    }
+    input.at = 2;
+    fields::check(has_opening(input.bytes, two), Reason::Opening)
 }
 
-// `count` such numbers, up to the first that is refused, stored in `out` from `from` on.
-pub fn read_run(
-    bytes: &[u8],
-    at: usize,
-    count: usize,
+// The end of a message: nothing is left over.
+pub fn read_end(input: &mut Input) -> Result<(), Reason>
+    ensures { Reads end input.old input.new result }
+{
+    fields::check(input.at == input.bytes.len(), Reason::LeftOver)
+}
+
+// The next number, of at most three groups, from `low` to `high`; any other is refused as `why`.
+pub fn read_field(input: &mut Input, low: u32, high: u32, why: Reason) -> Result<u32, Reason>
+    ensures { Reads (field 3 (within low high) why) input.old input.new result }
+{
+    let value = input.number(3)?;
+    fields::check(
+        fields::is_within(value, u64::from(low), u64::from(high)),
+        why,
+    )?;
+    Ok(value as u32)
+}
+
+// So many such numbers as `out` has room for, up to the first that is refused.
+pub fn read_run<T: Held>(
+    input: &mut Input,
     low: u32,
     high: u32,
     why: Reason,
-    out: &mut [u32],
-    from: usize,
-) -> Outcome
-    requires { from + count ≤ length out.old }
-    ensures value { result ≡ as_outcome (times count (field 3 (within low high) why) bytes.now at) }
-    ensures out_after { out.new ≡ sets out.old from (read_before count (field 3 (within low high) why) bytes.now at) }
+    out: &mut [T],
+) -> Result<(), Reason>
+    requires { high ≤ T.most }
+    ensures value { Reads (λ s at. behind (times (length out.old) (field 3 (within low high) why) s at)) input.old input.new result }
+    ensures out_after { out.new ≡ sets out.old 0 (T.held (read_before (length out.old) (field 3 (within low high) why) input.old.bytes.now input.old.at)) }
 {
-    let mut i = at;
-    let mut k: usize = 0;
-    while k < count {
-        match read_field(bytes, i, low, high, why) {
-            Field::Value { value, next } => {
-                out[from + k] = value;
-                i = next;
-            }
-            Field::Refused(reason) => {
-                return Outcome::Refused(reason);
-            }
-        }
-        k = k + 1;
+    for held in out.iter_mut() {
+        *held = T::hold(read_field(input, low, high, why)?);
     }
-    Outcome::Next(i)
-}
-
-// The same for numbers that fit a byte.
-pub fn read_byte_run(
-    bytes: &[u8],
-    at: usize,
-    count: usize,
-    low: u32,
-    high: u32,
-    why: Reason,
-    out: &mut [u8],
-    from: usize,
-) -> Outcome
-    requires { (from + count ≤ length out.old) × (high ≤ 255) }
-    ensures value { result ≡ as_outcome (times count (field 3 (within low high) why) bytes.now at) }
-    ensures out_after { out.new ≡ sets out.old from (read_before count (field 3 (within low high) why) bytes.now at) }
-{
-    let mut i = at;
-    let mut k: usize = 0;
-    while k < count {
-        match read_field(bytes, i, low, high, why) {
-            Field::Value { value, next } => {
-                out[from + k] = value as u8;
-                i = next;
-            }
-            Field::Refused(reason) => {
-                return Outcome::Refused(reason);
-            }
-        }
-        k = k + 1;
-    }
-    Outcome::Next(i)
+    Ok(())
 }

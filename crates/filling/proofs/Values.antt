@@ -36,46 +36,27 @@ use Rattle.problem.proofs.Queues.{value_fits}
 use Rattle.problem.proofs.Rule.{few_jobs}
 use Rattle.jobs_left.specs.Steps.{LeftAt}
 use Rattle.jobs_left.proofs.LeftAt.{left_in, complete_digits}
-use Rattle.layout.specs.declared.Layout.{Layout}
-use Rattle.layout.specs.Prepared.{Prepared}
-use Rattle.layout.proofs.Prepared.{strides_long, blocks_long, stride_at, block_at}
-use Rattle.next_states.specs.Numbers.{Running}
 use Rattle.next_states.specs.NextStates.{loaded, next_values, candidate, Ready}
 use Rattle.next_states.proofs.Numbers.{left_is, stride_below, number_next}
 use Rattle.next_states.proofs.Stored.{fits, loaded_stored, least_past, arg_past}
-use Rattle.next_states.proofs.Candidates.{loaded_next, length_next}
+use Rattle.next_states.proofs.Candidates.{loaded_next}
 use Rattle.filling.specs.Filling.{Earlier}
 
 -- ---- a table, looked at from one k
 
 -- the entries of the indices before i are filled, and `left` holds the k of index i
-pub record Look (q : Queue) (l : Layout) (table left : List ℕ) (i : ℕ) : Type 0 where
+pub record Look (q : Queue) (table left : List ℕ) (i : ℕ) : Type 0 where
   pub valid : Valid q
-  pub prepared : Prepared q l
-  pub gaps_long : length q.gaps ≡ 30
   pub earlier : Earlier (problem q) table i
   pub room : entries (problem q) ≤ length table
   pub left_at : LeftAt (problem q) left i
 
-module _ {q : Queue} {l : Layout} {table left : List ℕ} {i : ℕ} (s : Look q l table left i) where
+module _ {q : Queue} {table left : List ℕ} {i : ℕ} (s : Look q table left i) where
   abbrev k : List ℕ
   k = digits (all_left (problem q)) i
 
   abbrev next : List ℕ
   next = next_values (problem q) table k
-
-  -- the running number is k's part of 01's entry number
-  pub running : Running (problem q) left l.strides l.blocks i
-  running = record {
-    left_at = s.left_at;
-    numbers = record {
-      few = s.valid.kinds.1;
-      strides_long = strides_long s.valid s.prepared;
-      blocks_long = blocks_long s.valid s.prepared;
-      stride_is = stride_at s.valid s.prepared;
-      block_is = block_at s.valid s.prepared;
-    };
-  }
 
   -- what the table holds for the next state by way of x, at 01's number of it, is its value
   next_entry : (x : ℕ) → 0 < at k x → loaded (get_or table (number (problem q) x (complete k x)) 0) ≡ value (problem q) x (complete k x)
@@ -146,8 +127,6 @@ module _ {q : Queue} {l : Layout} {table left : List ℕ} {i : ℕ} (s : Look q 
     pub ready : row ≤ q.kinds → Ready next q.gaps row (W (problem q) k)
     ready u = record {
       row_in = omega (arith, s.valid.kinds);
-      next_long = length_next (problem q) table k;
-      gaps_long = s.gaps_long;
       counted = λ x a b. record {
         light = light;
         short = λ t found. short u x a (one_of x a b found) t;

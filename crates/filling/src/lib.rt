@@ -1,187 +1,102 @@
 // Filling the table of a queue: every state's value, and how many states are feasible.
 #![tactic(auto)]
 
-ghost use Rattle.std.specs.Prelude.{◌≡◌, ℕ, ◌+◌, ◌-◌, ◌^◌, ◌≤◌, ◌<◌, length};
-ghost use Rattle.std.proofs.Math.Option.{none, some};
-ghost use Rattle.gaps.specs.Gaps.{has_never};
-ghost use Rattle.queue.specs.Record.{Valid};
-ghost use Rattle.sequencing.specs.Problem.{Problem};
+ghost use Rattle.std.specs.Prelude.{◌≡◌, ℕ, suc, ◌+◌, ◌-◌, ◌^◌, ◌≤◌, ◌<◌, length, get_or};
+ghost use Rattle.std.proofs.Math.Option.{Option as OrNone, some};
 ghost use Rattle.sequencing.specs.Least.{only};
-ghost use Rattle.sequencing.specs.Entries.{entries, stored, FilledTable};
-ghost use Rattle.sequencing.specs.Counts.{valued, feasible_states};
+ghost use Rattle.sequencing.specs.Entries.{block, entries, FilledTable};
+ghost use Rattle.sequencing.specs.Counts.{feasible_states};
 ghost use Rattle.problem.specs.OfQueue.{problem};
-ghost use Rattle.layout.specs.PlaceSets.{is_in};
-ghost use Rattle.layout.specs.Prepared.{Prepared};
-ghost use Rattle.next_states.specs.NextStates.{loaded, Ready};
-ghost use Rattle.filling.specs.Filling.{value_by, Storable, StatesStored, in_place, Slotted, Arrays, entry_from, Fillable};
+ghost use Rattle.next_states.specs.NextStates.{answer, Ready};
+ghost use Rattle.filling.specs.Filling.{value_by, Answers, StatesStored, in_place, entry_from, Fillable};
 
-use jobs_left::JobsLeft;
-use layout::{Layout, Size};
-use queue::Queue;
+use gaps::GapTable;
+use jobs_left::{JobsLeft, StepWeight};
+use layout::Setup;
 
-// The value of one state with jobs left, NONE where it is not feasible.
+// Whether the job of a kind (from 0) that was just cut may stand at a place, told by its bit.
+fn is_permitted(setup: &Setup, k: &JobsLeft, places: &[u64; 65], here: u64, kind: usize) -> bool
+    requires { (kind < 5) × (get_or setup.now.layout.slots kind 0 + get_or k.now.left kind 0 < 65) }
+    ensures { result ≡ in_place k.now.left setup.now.layout.slots places.now here (suc kind) }
+{
+    let slot = setup.layout.slots[kind] + k.left[kind] as usize;
+    0 < places[slot] & here
+}
+
+// The value of one state with jobs left, none where it is not feasible.
 fn state_value(
-    next: &[u64],
-    gaps: &[u32; 30],
-    forbids: bool,
+    next: &[u64; 5],
+    gaps: &GapTable,
+    permitted: bool,
     kind: usize,
-    goal: u32,
-    weight: u64,
-    here: u64,
-    places: u64,
-) -> u64
-    requires { Ready next.now gaps.now kind weight × ((forbids ≡ has_never gaps.now) × (goal ≡ 1 → weight ≡ 1)) }
-    ensures { result ≡ stored (value_by next.now gaps.now weight (is_in here places) kind) }
+    weight: StepWeight,
+) -> Option<u64>
+    requires { Ready next.now gaps.now.numbers kind weight.weight }
+    ensures { result ≡ answer (value_by next.now gaps.now.numbers weight.weight permitted kind) }
 {
-    if places & here == 0 {
-        return next_states::NONE;
+    if !permitted {
+        return None;
     }
-    if forbids {
-        let best = next_states::least_open(next, gaps, kind, goal, weight);
-        let cost = best.cost;
-        return cost.number();
-    }
-    let best = next_states::least_of(next, gaps, kind, goal, weight);
-    let cost = best.cost;
-    cost.number()
+    let least = next_states::least_next(next, gaps, kind, weight)?;
+    Some(least.cost.number())
 }
 
-// The count with one more where there is a value.
-fn counted(feasible: u64, value: u64) -> u64
-    requires { feasible < 2 ^ 63 }
-    ensures { result ≡ feasible + valued (loaded value) }
+// The value of one state with nothing left: 0, none where its job may not stand there.
+fn last_value(permitted: bool) -> Option<u64>
+    ensures { result ≡ answer (only permitted (some 0)) }
 {
-    if value == next_states::NONE {
-        feasible
-    } else {
-        feasible + 1
+    if permitted {
+        return Some(0);
     }
+    None
 }
 
-// The value of one state with nothing left: 0, NONE where its job may not stand there.
-fn last_value(here: u64, places: u64) -> u64
-    ensures { result ≡ stored (only (is_in here places) (some 0)) }
-{
-    if 0 < places & here {
-        return 0;
-    }
-    next_states::NONE
-}
-
-// Stores the entries of all states with nothing left; returns how many of them hold a value.
-fn store_last(
+// Stores the entries of all states with one k, whose value a function of the kind (from 0) gives; returns how many of them hold one.
+fn store_states<F: Fn(usize) -> Option<u64>>(
+    setup: &Setup,
     table: &mut [u64],
-    left: &[u32; 5],
-    blocks: &[usize; 5],
-    slots: &[usize],
-    places: &[u64],
-    kinds: usize,
-    here: u64,
     index: usize,
+    value: F,
 ) -> u64
-    requires { ((P : Problem) × Storable P blocks.now table.old index kinds) × Slotted left.now slots.now places.now kinds }
-    ensures { (P : Problem) → Storable P blocks.now table.old index kinds → StatesStored P (λ L. only (in_place left.now slots.now places.now here L) (some 0)) table.old index table.new result }
+    requires room { (index < block (problem setup.now.queue)) × (entries (problem setup.now.queue) ≤ length table.old) }
+    requires callable { (x : ℕ) → x < setup.now.queue.kinds → F.pre value x }
+    ensures { (f : ℕ → OrNone ℕ) → Answers setup.now.queue.kinds (F.post value) f → StatesStored (problem setup.now.queue) f table.old index table.new result }
 {
     let mut feasible: u64 = 0;
-    let mut kind: usize = 0;
-    while kind < kinds {
-        let slot = slots[kind] + left[kind] as usize;
-        let value = last_value(here, places[slot]);
-        let at = next_states::state_entry(blocks, index, kind);
-        table[at] = value;
-        feasible = counted(feasible, value);
-        kind = kind + 1;
-    }
-    feasible
-}
-
-// Stores NONE for all states with one k.
-fn store_none(table: &mut [u64], blocks: &[usize; 5], kinds: usize, index: usize)
-    requires { (P : Problem) × Storable P blocks.now table.old index kinds }
-    ensures { (P : Problem) → Storable P blocks.now table.old index kinds → StatesStored P (λ L. none) table.old index table.new 0 }
-{
-    let mut kind: usize = 0;
-    while kind < kinds {
-        let at = next_states::state_entry(blocks, index, kind);
-        table[at] = next_states::NONE;
-        kind = kind + 1;
-    }
-}
-
-// Stores the entries of all states with one k, of which some is left; returns how many of them hold a value.
-fn store_values(
-    table: &mut [u64],
-    next: &[u64],
-    left: &[u32; 5],
-    blocks: &[usize; 5],
-    slots: &[usize],
-    places: &[u64],
-    gaps: &[u32; 30],
-    forbids: bool,
-    kinds: usize,
-    goal: u32,
-    weight: u64,
-    here: u64,
-    index: usize,
-) -> u64
-    requires slotted { ((P : Problem) × Storable P blocks.now table.old index kinds) × Slotted left.now slots.now places.now kinds }
-    requires by_index { ((L : ℕ) → 1 ≤ L → L ≤ kinds → Ready next.now gaps.now L weight) × ((forbids ≡ has_never gaps.now) × (goal ≡ 1 → weight ≡ 1)) }
-    ensures { (P : Problem) → Storable P blocks.now table.old index kinds → StatesStored P (λ L. value_by next.now gaps.now weight (in_place left.now slots.now places.now here L) L) table.old index table.new result }
-{
-    let mut feasible: u64 = 0;
-    let mut kind: usize = 0;
-    while kind < kinds {
-        let slot = slots[kind] + left[kind] as usize;
-        let value = state_value(
-            next,
-            gaps,
-            forbids,
-            kind + 1,
-            goal,
-            weight,
-            here,
-            places[slot],
-        );
-        let entry = next_states::state_entry(blocks, index, kind);
-        table[entry] = value;
-        feasible = counted(feasible, value);
-        kind = kind + 1;
+    for kind in 0..setup.layout.size.kinds {
+        let entry = next_states::state_entry(setup, index, kind);
+        match value(kind) {
+            Some(found) => {
+                table[entry] = found;
+                feasible += 1;
+            }
+            None => table[entry] = next_states::NONE,
+        }
     }
     feasible
 }
 
 // Fills the entries of all states with one k; returns how many of them hold a value. Where no next state has one, no state has, and neither places nor gaps
 // are looked at: with a small shift that is nearly every k.
-fn fill_states(
-    table: &mut [u64],
-    left: &[u32; 5],
-    strides: &[usize; 5],
-    blocks: &[usize; 5],
-    slots: &[usize],
-    places: &[u64],
-    gaps: &[u32; 30],
-    forbids: bool,
-    kinds: usize,
-    goal: u32,
-    k: JobsLeft,
-    here: u64,
-) -> u64
-    requires { ((P : Problem) × Fillable P table.old (record { left = left.now; strides = strides.now; blocks = blocks.now; slots = slots.now; places = places.now; gaps = gaps.now }) goal k here kinds) × (forbids ≡ has_never gaps.now) }
-    ensures { ((P : Problem) → let a : Arrays = record { left = left.now; strides = strides.now; blocks = blocks.now; slots = slots.now; places = places.now; gaps = gaps.now } in Fillable P table.old a goal k here kinds → StatesStored P (entry_from P table.old a goal k here) table.old k.index table.new result) }
+fn fill_states(setup: &Setup, table: &mut [u64], k: &JobsLeft, places: &[u64; 65], here: u64) -> u64
+    requires { Fillable setup.now.queue table.old k.now }
+    ensures { StatesStored (problem setup.now.queue) (entry_from setup.now.queue table.old k.now (in_place k.now.left setup.now.layout.slots places.now here)) table.old k.now.index table.new result }
 {
-    let index = k.index;
-    let next = next_states::load_next(table, left, strides, blocks, index);
+    let next = next_states::load_next(setup, table, k);
     if next_states::none_next(&next) {
         if k.jobs == 0 {
-            return store_last(table, left, blocks, slots, places, kinds, here, index);
+            return store_states(setup, table, k.index, |kind| {
+                last_value(is_permitted(setup, k, places, here, kind))
+            });
         }
-        store_none(table, blocks, kinds, index);
-        return 0;
+        return store_states(setup, table, k.index, |_| None);
     }
-    let weight = jobs_left::step_weight(goal, k.weight);
-    store_values(
-        table, &next, left, blocks, slots, places, gaps, forbids, kinds, goal, weight, here, index,
-    )
+    let gaps = &setup.layout.gaps;
+    let weight = k.step_weight(setup.queue.goal);
+    store_states(setup, table, k.index, |kind| {
+        let permitted = is_permitted(setup, k, places, here, kind);
+        state_value(&next, gaps, permitted, kind + 1, weight)
+    })
 }
 
 // The place of the jobs just cut, as a bit: one place earlier where one job more is left, which most steps do; else it is shifted anew.
@@ -198,37 +113,21 @@ fn place_after(here: u64, before: u32, jobs: u32, total: u32) -> u64
 }
 
 // Fills the table with every state's value; returns how many states are feasible.
-pub fn fill(queue: Queue, layout: Layout, table: &mut [u64]) -> u64
-    requires { Valid queue × (Prepared queue layout × (entries (problem queue) ≤ length table.old)) }
-    ensures filled_table { FilledTable (problem queue) table.old table.new }
-    ensures value { result ≡ feasible_states (problem queue) }
+pub fn fill(setup: &Setup, table: &mut [u64]) -> u64
+    requires { entries (problem setup.now.queue) ≤ length table.old }
+    ensures filled_table { FilledTable (problem setup.now.queue) table.old table.new }
+    ensures value { result ≡ feasible_states (problem setup.now.queue) }
 {
+    let layout = &setup.layout;
     let size = layout.size;
-    let gaps = queue.gaps;
-    let weights = queue.weights;
-    let counts = layout.counts;
-    let strides = layout.strides;
-    let blocks = layout.blocks;
-    let slots = layout.slots;
-    let forbids = layout.forbids;
-    let mut left = [0u32; 5];
-    let mut k = JobsLeft {
-        index: 0,
-        jobs: 0,
-        weight: 0,
-    };
-    let mut places = [0u64; 65];
-    layout::place_sets(&layout.earliest, &layout.latest, size, &mut places);
+    let places = setup.place_sets();
+    let mut k = JobsLeft::none();
     let mut here = layout::place_bit(size.jobs);
     let mut feasible: u64 = 0;
-    while k.index < size.block {
-        feasible = feasible
-            + fill_states(
-                table, &left, &strides, &blocks, &slots, &places, &gaps, forbids, size.kinds,
-                queue.goal, k, here,
-            );
+    for _ in 0..size.block {
+        feasible += fill_states(setup, table, &k, &places, here);
         let before = k.jobs;
-        k = jobs_left::step_left(&mut left, &counts, &weights, size.kinds, k);
+        k.step(&layout.counts, &setup.queue.weights, size.kinds);
         here = place_after(here, before, k.jobs, size.jobs);
     }
     feasible

@@ -1,13 +1,13 @@
 -- A format: one description of a part of a message, from which every law of its reader and its writer follows.
 -- Assumes nothing.
+use Rattle.refusal.specs.Answers.{Verdict, Accepted}
+use Rattle.std.specs.Prelude.{Err}
 use Prim.Native.Nat.{ℕ, ◌+◌, ◌≤◌}
 use mathlib.Core.Path.{◌≡◌}
 use mathlib.Core.Logic.{◌↔◌}
 use mathlib.Core.List.{List, ◌++◌}
 use lib.ListN.{length, take, drop}
 use Rattle.refusal.specs.declared.Reason.{Reason}
-use Rattle.refusal.specs.declared.Verdict.{Verdict}
-use Rattle.refusal.specs.declared.Verdict.TheVariants.{Accepted, Refused}
 use Rattle.number.specs.Readers.{found, refused, Reader}
 use Rattle.fields.specs.Lists.{Bytes}
 use Rattle.fields.proofs.Codecs.{Stand}
@@ -42,4 +42,4 @@ pub record Format (A Given : Type 0) (wide far : ℕ) (whys : List Reason) : Typ
   -- the verdict accepts what can be read
   pub accepts : Given → (a : A) → Sized a → (judge a ≡ Accepted) ↔ Ok a
   -- and refuses any other with the refusal that its bytes get
-  pub refuses : Given → (s : List ℕ) (at : ℕ) (a : A) (rest : List ℕ) (r : Reason) → Sized a → Small a → drop at s ≡ write a ++ rest → judge a ≡ Refused r → read s at ≡ refused r
+  pub refuses : Given → (s : List ℕ) (at : ℕ) (a : A) (rest : List ℕ) (r : Reason) → Sized a → Small a → drop at s ≡ write a ++ rest → judge a ≡ Err r → read s at ≡ refused r

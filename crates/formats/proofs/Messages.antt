@@ -1,5 +1,7 @@
 -- The laws of a message: what its reader, its writer and its verdict promise together, of the definitions that a reader must believe.
 -- Assumes nothing.
+use Rattle.refusal.specs.Answers.{Verdict, Accepted}
+use Rattle.std.specs.Prelude.{Err}
 use Prim.Native.Nat.{ℕ, ◌+◌, ◌<◌, ◌≤◌}
 use mathlib.Core.Path.{◌≡◌, sym, ap, ◌∙◌}
 use mathlib.Core.Logic.{◌↔◌}
@@ -9,8 +11,6 @@ use native.Mathlib.Omega.{arith}
 use lib.ListN.{length, take}
 use Rattle.refusal.specs.declared.Reason.{Reason}
 use Rattle.refusal.specs.declared.Reason.TheVariants.{Opening, LeftOver}
-use Rattle.refusal.specs.declared.Verdict.{Verdict}
-use Rattle.refusal.specs.declared.Verdict.TheVariants.{Accepted, Refused}
 use Rattle.number.specs.Readers.{found, refused, Reader}
 use Rattle.fields.specs.Messages.{opens}
 use Rattle.fields.specs.Lists.{Bytes}
@@ -35,7 +35,7 @@ pub record Message {R : Type 0} (read : Reader R) (message : R → List ℕ) (Va
   -- the writer takes what is valid
   pub accepts : (q : R) → (judge q ≡ Accepted) ↔ Valid q
   -- a record whose numbers fit a message: the writer refuses it with the refusal that the reader would give its message
-  pub refuses : (q : R) (r : Reason) → Fits q → judge q ≡ Refused r → read (message q) 0 ≡ refused r
+  pub refuses : (q : R) (r : Reason) → Fits q → judge q ≡ Err r → read (message q) 0 ≡ refused r
 
 -- how those definitions say the format: `view` is a record's parts
 pub record Tied {R A : Type 0} {wide far : ℕ} {whys : List Reason} (a b : ℕ) (F : Format A (Unit {0}) wide far whys) (make : A → R) (view : R → A)

@@ -1,5 +1,7 @@
 -- One part and then another, which may depend on what the first found.
 -- Assumes nothing.
+use Rattle.refusal.specs.Answers.{Verdict, Accepted}
+use Rattle.std.specs.Prelude.{Ok, Err}
 use Prim.Native.Nat.{ℕ, max, ◌+◌, ◌≤◌}
 use mathlib.Core.Path.{◌≡◌, refl, ap, ◌∙◌, subst₂}
 use mathlib.Core.Logic.{◌↔◌}
@@ -7,8 +9,6 @@ use mathlib.Core.List.{List, ◌++◌, append_assoc}
 use native.Mathlib.Omega.{arith}
 use lib.ListN.{length, take, drop, length-append}
 use Rattle.refusal.specs.declared.Reason.{Reason}
-use Rattle.refusal.specs.declared.Verdict.{Verdict}
-use Rattle.refusal.specs.declared.Verdict.TheVariants.{Accepted, Refused}
 use Rattle.number.specs.Readers.{Found, found, refused, Reader, and_then, ◌>>=◌, give}
 use Rattle.number.proofs.Steps.{went_on, found_value, found_next}
 use Rattle.fields.specs.Lists.{Bytes}
@@ -94,20 +94,20 @@ module _ {A B Given : Type 0} {wideA wideB farA farB : ℕ} {whysA whysB : List 
       )
 
   pub pair_refuses : Given → (s : List ℕ) (at : ℕ) (p : A × B) (rest : List ℕ) (r : Reason) → F.Sized p.0 × (G p.0).Sized p.1 → F.Small p.0 × (G p.0).Small p.1
-      → drop at s ≡ both_bytes p ++ rest → F.judge p.0 before (G p.0).judge p.1 ≡ Refused r → both_read s at ≡ refused r
+      → drop at s ≡ both_bytes p ++ rest → F.judge p.0 before (G p.0).judge p.1 ≡ Err r → both_read s at ≡ refused r
   pair_refuses z s at p rest r n k e j = go (F.judge p.0) refl
     where
       e₁ : drop at s ≡ F.write p.0 ++ ((G p.0).write p.1 ++ rest)
       e₁ = e ∙ append_assoc (F.write p.0) ((G p.0).write p.1) rest
 
       go : (v : Verdict) → F.judge p.0 ≡ v → both_read s at ≡ refused r
-      go Accepted a =
+      go (Ok tt) a =
           let ok = (F.accepts z p.0 n.0).0 a in
           rw (
             F.writes z s at p.0 ((G p.0).write p.1 ++ rest) ok e₁,
             (G p.0).refuses (z, F.known z p.0 ok) s (at + length (F.write p.0)) p.1 rest r n.1 k.1 (past s at (F.write p.0) ((G p.0).write p.1 ++ rest) e₁) (rw a at j),
           )
-      go (Refused q) a = let same : Refused q ≡ Refused r = rw a at j in rw (F.refuses z s at p.0 ((G p.0).write p.1 ++ rest) r n.0 k.0 e₁ (a ∙ same))
+      go (Err q) a = let same : Err q ≡ Err r = rw a at j in rw (F.refuses z s at p.0 ((G p.0).write p.1 ++ rest) r n.0 k.0 e₁ (a ∙ same))
 
   -- two parts, one after the other: for a record, whose later parts depend on its counts
   abbrev pub and_next : Format (A × B) Given (wideA + wideB) (max farA (wideA + farB)) (whysA ++ whysB)

@@ -1,14 +1,13 @@
 -- The laws of a message, said of what reading bytes gives: a verdict and a record.
 -- Assumes nothing.
+use Rattle.std.specs.Prelude.{Err}
 use Prim.Native.Nat.{ℕ}
 use mathlib.Core.Path.{◌≡◌, refl, sym, ap, ◌∙◌}
 use mathlib.Core.Logic.{◌↔◌, ◌≢◌}
 use mathlib.Core.List.{List}
 use lib.ListN.{length}
 use Rattle.refusal.specs.declared.Reason.{Reason}
-use Rattle.refusal.specs.declared.Verdict.{Verdict}
-use Rattle.refusal.specs.declared.Verdict.TheVariants.{Accepted, Refused}
-use Rattle.refusal.specs.Answers.{verdict_number, refusal_of}
+use Rattle.refusal.specs.Answers.{verdict_number, refusal_of, Verdict, Accepted}
 use Rattle.number.specs.Readers.{Found, found, refused, Reader}
 use Rattle.fields.specs.Lists.{Bytes}
 use Rattle.fields.proofs.Writers.{Laws}
@@ -19,7 +18,7 @@ use Rattle.formats.proofs.Messages.{Message}
 -- reading gives the record that was found, or the refusal with the record of a refused message
 pub record Reads {R : Type 0} (read : Reader R) (blank : R) (verdict : List ℕ → Verdict) (record_of : List ℕ → R) : Type 0 where
   pub on_found : (s : List ℕ) (q : R) (n : ℕ) → read s 0 ≡ found q n → (verdict s ≡ Accepted) × (record_of s ≡ q)
-  pub on_refused : (s : List ℕ) (r : Reason) → read s 0 ≡ refused r → (verdict s ≡ Refused r) × (record_of s ≡ blank)
+  pub on_refused : (s : List ℕ) (r : Reason) → read s 0 ≡ refused r → (verdict s ≡ Err r) × (record_of s ≡ blank)
 
 module _ {R : Type 0} {read : Reader R} {blank : R} {verdict : List ℕ → Verdict} {record_of : List ℕ → R}
     (T : Reads read blank verdict record_of) (s : List ℕ) where
@@ -30,12 +29,12 @@ module _ {R : Type 0} {read : Reader R} {blank : R} {verdict : List ℕ → Verd
       go (found q n) h = (n, h ∙ ap (λ (p : R). found p n) (sym (T.on_found s q n h).1))
       go (refused r) h = not_accepted r (sym (T.on_refused s r h).0 ∙ e)
 
-  refused_found : (r : Reason) → verdict s ≡ Refused r → read s 0 ≡ refused r
+  refused_found : (r : Reason) → verdict s ≡ Err r → read s 0 ≡ refused r
   refused_found r e = go (read s 0) refl
     where
       go : (f : Found R) → read s 0 ≡ f → read s 0 ≡ refused r
       go (found q n) h = not_accepted r (sym e ∙ (T.on_found s q n h).0)
-      go (refused w) h = let same : Refused w ≡ Refused r = sym (T.on_refused s w h).0 ∙ e in h ∙ cc
+      go (refused w) h = let same : Err w ≡ Err r = sym (T.on_refused s w h).0 ∙ e in h ∙ cc
 
   -- a refused reading, by its number alone: its record is all 0
   pub refused_blank : refusal_of (verdict_number (verdict s)) ≢ 0 → record_of s ≡ blank
@@ -67,11 +66,11 @@ module _ {R : Type 0} {read : Reader R} {message : R → List ℕ} {Valid Known 
   )
 
   -- the reader's refusals
-  pub refusal_arises : (s : List ℕ) (r : Reason) → verdict s ≡ Refused r → Arises whys r
+  pub refusal_arises : (s : List ℕ) (r : Reason) → verdict s ≡ Err r → Arises whys r
   refusal_arises s r e = M.gives s r (refused_found T s r e)
 
   -- a record that fits a message: the writer refuses it with the refusal that the reader would give its message
-  pub refused_like : (q : R) (r : Reason) → Fits q → judge q ≡ Refused r → verdict (message q) ≡ Refused r
+  pub refused_like : (q : R) (r : Reason) → Fits q → judge q ≡ Err r → verdict (message q) ≡ Err r
   refused_like q r k j = (T.on_refused (message q) r (M.refuses q r k j)).0
 
   -- what the writer's promise asks, where a record with 0 past its counts is the same up to them

@@ -1,5 +1,7 @@
 -- Runs: a part so many times, where each time may depend on what the earlier ones found.
 -- Assumes nothing.
+use Rattle.refusal.specs.Answers.{Verdict, Accepted}
+use Rattle.std.specs.Prelude.{Ok, Err}
 use Prim.Native.Nat.{ℕ, zero, suc, ◌+◌, ◌-◌, ◌*◌, ◌≤◌}
 use mathlib.Core.Path.{◌≡◌, refl, sym, ap, ◌∙◌, subst₂}
 use mathlib.Core.Logic.{◌↔◌}
@@ -8,8 +10,6 @@ use native.Mathlib.Omega.{arith}
 use native.Mathlib.Nat.{suc-mul, mul-le-mul}
 use lib.ListN.{length, take, drop, length-append}
 use Rattle.refusal.specs.declared.Reason.{Reason}
-use Rattle.refusal.specs.declared.Verdict.{Verdict}
-use Rattle.refusal.specs.declared.Verdict.TheVariants.{Accepted, Refused}
 use Rattle.number.specs.Readers.{found, refused, Reader, and_then}
 use Rattle.number.proofs.Steps.{went_on, found_value, found_next}
 use Rattle.fields.specs.Lists.{Bytes}
@@ -134,18 +134,18 @@ module _ {S A Given : Type 0} {wide far : ℕ} {whys : List Reason} (one : S →
 
     -- the first of a run, then the rest of it
     step_refuses : (n : ℕ) (state : S) (s : List ℕ) (at : ℕ) (a : A) (more : List A) (rest : List ℕ) (r : Reason) (v : Verdict) → (one state).judge a ≡ v → (one state).Sized a → (one state).Small a
-        → drop at s ≡ (one state).write a ++ (run_bytes (step state a) more ++ rest) → v before in_turn (λ state. (one state).judge) step (step state a) more ≡ Refused r
-        → ((i : ℕ) → drop i s ≡ run_bytes (step state a) more ++ rest → in_turn (λ state. (one state).judge) step (step state a) more ≡ Refused r → run n (step state a) s i ≡ refused r)
+        → drop at s ≡ (one state).write a ++ (run_bytes (step state a) more ++ rest) → v before in_turn (λ state. (one state).judge) step (step state a) more ≡ Err r
+        → ((i : ℕ) → drop i s ≡ run_bytes (step state a) more ++ rest → in_turn (λ state. (one state).judge) step (step state a) more ≡ Err r → run n (step state a) s i ≡ refused r)
         → run (suc n) state s at ≡ refused r
     unfolding in_order
-    step_refuses n state s at a more rest r Accepted v m k d j later =
+    step_refuses n state s at a more rest r (Ok tt) v m k d j later =
         let X = (one state).write a in
         let Y = run_bytes (step state a) more ++ rest in
         rw ((one state).writes z s at a Y (((one state).accepts z a m).0 v) d, later (at + length X) (past s at X Y d) j)
-    step_refuses n state s at a more rest r (Refused q) v m k d j later = rw ((one state).refuses z s at a (run_bytes (step state a) more ++ rest) r m k d (v ∙ j))
+    step_refuses n state s at a more rest r (Err q) v m k d j later = rw ((one state).refuses z s at a (run_bytes (step state a) more ++ rest) r m k d (v ∙ j))
 
     pub run_refuses : (n : ℕ) (state : S) (s : List ℕ) (at : ℕ) (xs : List A) (rest : List ℕ) (r : Reason) → length xs ≡ n → RunSized state xs → RunSmall state xs
-        → drop at s ≡ run_bytes state xs ++ rest → in_turn (λ state. (one state).judge) step state xs ≡ Refused r → run n state s at ≡ refused r
+        → drop at s ≡ run_bytes state xs ++ rest → in_turn (λ state. (one state).judge) step state xs ≡ Err r → run n state s at ≡ refused r
     unfolding in_turn
     run_refuses zero state s at [] rest r long m k e j = not_accepted r (sym j)
     run_refuses zero state s at (a ∷ more) rest r long m k e j = absurd (omega arith)

@@ -1,13 +1,12 @@
 -- A format told otherwise: by another reader and writer, by another verdict, as another type.
 -- Assumes nothing.
+use Rattle.refusal.specs.Answers.{Verdict, Accepted}
 use Prim.Native.Nat.{ℕ, ◌+◌, ◌≤◌}
 use mathlib.Core.Path.{◌≡◌, sym, ap, ◌∙◌, subst₂}
 use mathlib.Core.Logic.{◌↔◌}
 use mathlib.Core.List.{List}
 use lib.ListN.{length, take}
 use Rattle.refusal.specs.declared.Reason.{Reason}
-use Rattle.refusal.specs.declared.Verdict.{Verdict}
-use Rattle.refusal.specs.declared.Verdict.TheVariants.{Accepted}
 use Rattle.number.specs.Readers.{found, Reader, and_then}
 use Rattle.number.proofs.Steps.{went_on, found_value, found_next}
 use Rattle.fields.specs.Lists.{Bytes}

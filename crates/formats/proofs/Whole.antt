@@ -1,5 +1,6 @@
 -- A whole message, as it is read: an opening, one format, and nothing left over; and the record that is made of its parts.
 -- Assumes nothing.
+use Rattle.std.specs.Prelude.{Err}
 use Prim.Native.Nat.{ℕ, ◌+◌, ◌<◌, ◌≤◌}
 use mathlib.Core.Path.{◌≡◌, refl, sym, ap, ◌∙◌}
 use mathlib.Core.Bool.{Bool, true, cond}
@@ -12,7 +13,6 @@ use lib.Seq.{drop-length}
 use borrow.Author.Tests.{eq-eqb, eqb-true}
 use Rattle.refusal.specs.declared.Reason.{Reason}
 use Rattle.refusal.specs.declared.Reason.TheVariants.{Opening, LeftOver}
-use Rattle.refusal.specs.declared.Verdict.TheVariants.{Refused}
 use Rattle.number.specs.Readers.{found, refused, Reader, and_then, ◌>>=◌, ◌>>◌, give}
 use Rattle.number.proofs.Steps.{went_on, passed, found_value, found_next}
 use Rattle.fields.specs.Messages.{opens, opening, end}
@@ -39,7 +39,7 @@ module _ {R A : Type 0} {wide far : ℕ} {whys : List Reason} (a b : ℕ) (F : F
       rw (← opens_both a b s (omega arith) refl refl, F.writes tt s 2 parts [] k (sym (append-nil (F.write parts))), n, eq-eqb (length s) (length s) refl)
 
   -- parts that the verdict refuses, so written, are refused with the same refusal
-  pub whole_refuses : (parts : A) (r : Reason) → F.Sized parts → F.Small parts → F.judge parts ≡ Refused r → whole ((a ∷ b ∷ []) ++ F.write parts) 0 ≡ refused r
+  pub whole_refuses : (parts : A) (r : Reason) → F.Sized parts → F.Small parts → F.judge parts ≡ Err r → whole ((a ∷ b ∷ []) ++ F.write parts) 0 ≡ refused r
   whole_refuses parts r n k j =
       let s = (a ∷ b ∷ []) ++ F.write parts in
       rw (← opens_both a b s (omega arith) refl refl, F.refuses tt s 2 parts [] r n k (sym (append-nil (F.write parts))) j)

@@ -6,7 +6,6 @@ use mathlib.Core.Logic.{inl, inr, ◌↔◌, ◌≢◌}
 use mathlib.Core.Path.{◌≡◌, refl, sym, ap, ◌∙◌}
 use native.Mathlib.Nat.{eq-or-lt_of_le}
 use native.Mathlib.Omega.{arith}
-use mathlib.Mathlib.Data.Bool.Basic.{dichotomy}
 use lib.Dec.{eqb}
 use borrow.Author.Tests.{eqb-true, ne_eqb}
 use Rattle.units.specs.declared.Seconds.{Seconds}
@@ -34,10 +33,6 @@ gap_never = refl
 pub gap_seconds : (g : ℕ) → g ≢ 65536 → as_gap g ≡ lasting g
 gap_seconds g h = rw (ne_eqb g 65536 h) refl
 
--- as a time that was made of it
-pub gap_lasts : {s : Seconds} (g : ℕ) → s.0 ≡ g → g ≢ 65536 → as_gap g ≡ Lasting s
-gap_lasts g e h = gap_seconds g h ∙ ap lasting (sym e)
-
 -- so no gap up to 65536 has more than 65535 seconds
 pub gap_le : (g : ℕ) → g ≤ 65536 → seconds_of (as_gap g) ≤ 65535
 gap_le g h = elim (eq-or-lt_of_le h) [ inl e ↦ rw e (omega arith) | inr l ↦ rw (gap_seconds g (λ e. omega arith)) (omega arith) ]
@@ -45,10 +40,6 @@ gap_le g h = elim (eq-or-lt_of_le h) [ inl e ↦ rw e (omega arith) | inr l ↦ 
 only_never : (g : ℕ) (b : Bool) → cond b Never (lasting g) ≡ Never → b ≡ true
 only_never g true e = refl
 only_never g false e = absurd (not_never (record { 0 = g }) e)
-
--- nor more than its number
-pub gap_most : (g : ℕ) → seconds_of (as_gap g) ≤ g
-gap_most g = elim (dichotomy (eqb g 65536)) [ inl f ↦ rw f (omega arith) | inr t ↦ rw t (omega arith) ]
 
 -- so never is exactly 65536
 pub never_is : (g : ℕ) → (as_gap g ≡ Never) ↔ (g ≡ 65536)

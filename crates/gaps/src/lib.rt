@@ -8,6 +8,7 @@ ghost use Rattle.gaps.specs.Gaps.{gap_row, gap_index, gap_between, has_never};
 use units::Seconds;
 
 // 02's gap: seconds, or never, where the succession is forbidden.
+// Its own enum and no `Option`: never is a gap that is known, and `None` stands for what is not there, as the successor of the last job.
 #[derive(Clone, Copy)]
 pub enum Gap {
     Lasting(Seconds),
@@ -16,6 +17,25 @@ pub enum Gap {
 
 // The number that records and messages write for never. It is compared and never counted with.
 const NEVER: u32 = 65536;
+
+// The gaps of a queue, and whether any is never, which a call finds out once.
+#[derive(Clone, Copy)]
+pub struct GapTable {
+    pub numbers: [u32; 30],
+    pub forbids: bool,
+    pub ghost told: { forbids ≡ has_never numbers },
+}
+
+impl GapTable {
+    pub fn new(numbers: [u32; 30]) -> GapTable
+        ensures { result.numbers ≡ numbers }
+    {
+        GapTable {
+            numbers,
+            forbids: has_never(&numbers),
+        }
+    }
+}
 
 // Where the gaps of a row (a kind, or 0 for the cold cutter) begin.
 pub fn row_start(row: usize) -> usize
@@ -30,31 +50,15 @@ pub fn gap_index(row: usize, kind: usize) -> usize
     requires { gap_index row kind < 2 ^ 64 }
     ensures { result ≡ gap_index row kind }
 {
-    if kind < 1 {
-        return row_start(row);
-    }
-    row_start(row) + (kind - 1)
+    row_start(row) + kind.saturating_sub(1)
 }
 
-// Whether any gap is never, which a call finds out once.
+// Whether any gap is never.
+#[tactic(auto, using(crate::proofs::Nevers::found_never))]
 pub fn has_never(gaps: &[u32]) -> bool
     ensures { result ≡ has_never gaps.now }
 {
-    let mut i: usize = 0;
-    while i < gaps.len() {
-        if gaps[i] == NEVER {
-            return true;
-        }
-        i = i + 1;
-    }
-    false
-}
-
-// A number of a record's array as a time.
-fn in_seconds(number: u32) -> Seconds
-    ensures { result.0 ≡ number }
-{
-    Seconds(number as u64)
+    gaps.contains(&NEVER)
 }
 
 // The gap from a row to a kind. A kind of 0, or past N, gets the gap that stands where its own would.
@@ -62,12 +66,10 @@ pub fn gap_after(gaps: &[u32], row: usize, kind: usize) -> Gap
     requires { gap_index row kind < length gaps.now }
     ensures { result ≡ gap_between gaps.now row kind }
 {
-    let at = gap_index(row, kind);
-    let number = gaps[at];
-    if number == NEVER {
-        return Gap::Never;
+    match gaps[gap_index(row, kind)] {
+        NEVER => Gap::Never,
+        number => Gap::Lasting(Seconds(u64::from(number))),
     }
-    Gap::Lasting(in_seconds(number))
 }
 
 // The same where it is known not to be never: nothing is compared.
@@ -75,6 +77,5 @@ pub fn seconds_after(gaps: &[u32], row: usize, kind: usize) -> Seconds
     requires { (gap_index row kind < length gaps.now) × (gap_between gaps.now row kind ≢ Never) }
     ensures { gap_between gaps.now row kind ≡ Lasting result }
 {
-    let at = gap_index(row, kind);
-    in_seconds(gaps[at])
+    Seconds(u64::from(gaps[gap_index(row, kind)]))
 }

@@ -1,6 +1,6 @@
 -- Loops over the kinds: what they have added up or multiplied is that of the kinds passed.
 -- Assumes nothing.
-use Prim.Native.Nat.{ℕ, zero, suc, ◌+◌, ◌-◌, ◌*◌, ◌^◌, ◌≤◌, ◌<◌}
+use Prim.Native.Nat.{ℕ, zero, suc, ◌+◌, ◌*◌, ◌^◌, ◌≤◌, ◌<◌}
 use mathlib.Core.Path.{◌≡◌, refl, sym, ap, ◌∙◌}
 use mathlib.Core.Logic.{inl, inr}
 use mathlib.Core.List.{List, [], ◌∷◌, ◌++◌}
@@ -8,16 +8,11 @@ use native.Mathlib.Omega.{arith}
 use native.Mathlib.Nat.{mul-le-mul, pow-suc, pow-le-pow_right, eq-or-lt_of_le}
 use lib.ListN.{length, get_or, take, set, length-set}
 use lib.Seq.{take-suc, take-take, length-take-le, get_or-set_same, get_or-set_other}
-use Rattle.sequencing.specs.Lists.{at, weigh}
+use Rattle.sequencing.specs.Lists.{at}
 use Rattle.sequencing.specs.Entries.{size, stride}
 use Rattle.sequencing.proofs.Radix.{size_more}
 
 -- ---- one number more
-
-weigh_more : (f : ℕ → ℕ) (xs : List ℕ) (x : ℕ) → weigh f (xs ++ (x ∷ [])) ≡ weigh f xs + x * f (suc (length xs))
-unfolding weigh
-weigh_more f [] x = omega arith
-weigh_more f (c ∷ cs) x = omega (arith, weigh_more (λ j. f (suc j)) cs x)
 
 -- one job of a kind counts for as much as the kinds before it have k
 stride_size : (cs : List ℕ) (j : ℕ) → j < length cs → stride cs (suc j) ≡ size (take j cs)
@@ -40,38 +35,6 @@ module _ (of : List ℕ → ℕ) (most : ℕ → ℕ) (counts : List ℕ) (kinds
   front_more r h total' e s =
       let f : j + 1 ≡ suc j = omega arith in
       record { few = omega arith; means = sym e ∙ rw (f, take-suc counts j 0 (omega arith)); small = s }
-
-  pub front_done : kinds ≤ j → total ≡ of (take kinds counts)
-  front_done h = let e : kinds ≡ j = omega (arith, w.few) in w.means ∙ rw e
-
--- ---- the weight of jobs left
-
--- at most 60 of a kind, each with at most 1000 pupils waiting
-pub record Weighing (weights left : List ℕ) (kinds total j : ℕ) : Type 0 where
-  pub front : Front (weigh (λ j. get_or weights (j - 1) 0)) (λ j. 60000 * j) left kinds total j
-
-pub weighing_none : {weights left : List ℕ} {kinds : ℕ} → Weighing weights left kinds 0 0
-unfolding weigh
-weighing_none = record { front = record { few = omega arith; means = refl; small = omega arith } }
-
-module _ {weights left : List ℕ} {kinds total j : ℕ} (w : Weighing weights left kinds total j) (h : j < kinds)
-    (small : ((j : ℕ) → j < kinds → get_or left j 0 ≤ 60) × ((j : ℕ) → j < kinds → get_or weights j 0 ≤ 1000)) where
-  one_small : get_or left j 0 * get_or weights j 0 ≤ 60000
-  one_small = mul-le-mul {n₂ = 60} {m₂ = 1000} (small.0 j h) (small.1 j h)
-
-  pub one_fits : get_or left j 0 * get_or weights j 0 < 2 ^ 32
-  one_fits = omega (arith, one_small)
-
-  pub weighing_fits : kinds ≤ 5 → total + get_or left j 0 * get_or weights j 0 < 2 ^ 64
-  weighing_fits l = omega (arith, one_small, w.front.small)
-
-  pub weighing_more : kinds ≤ length left → Weighing weights left kinds (total + get_or left j 0 * get_or weights j 0) (j + 1)
-  weighing_more r =
-      let f : suc (length (take j left)) - 1 ≡ j = omega (arith, length-take-le j left (omega arith)) in
-      record {
-        front = front_more (weigh (λ j. get_or weights (j - 1) 0)) (λ j. 60000 * j) left kinds total j w.front r h (total + get_or left j 0 * get_or weights j 0)
-            (weigh_more (λ j. get_or weights (j - 1) 0) (take j left) (get_or left j 0) ∙ rw (f, w.front.means)) (omega (arith, one_small, w.front.small));
-      }
 
 -- ---- strides
 

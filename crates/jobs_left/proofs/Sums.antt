@@ -1,12 +1,12 @@
 -- Jobs left and their weight, carried along while the counts step.
 -- Assumes nothing.
 use Prim.Native.Nat.{ℕ, zero, suc, ◌+◌, ◌-◌, ◌*◌, ◌≤◌, ◌<◌}
-use mathlib.Core.List.{List, [], ◌∷◌}
-use mathlib.Core.Path.{◌≡◌}
-use native.Mathlib.Nat.{add-mul, one-mul, zero-mul}
+use mathlib.Core.List.{List, [], ◌∷◌, ◌++◌}
+use mathlib.Core.Path.{◌≡◌, refl}
+use native.Mathlib.Nat.{add-mul, one-mul, zero-mul, mul-le-mul}
 use native.Mathlib.Omega.{arith}
 use lib.ListN.{length, get_or, take, set}
-use lib.Seq.{take-set-lt, get_or-take, length-take-le}
+use lib.Seq.{take-suc, take-set-lt, get_or-take, length-take-le}
 use Rattle.sequencing.specs.Lists.{sum, weigh}
 use Rattle.jobs_left.specs.Steps.{Summed}
 
@@ -60,4 +60,41 @@ module _ {weights left : List ℕ} {kinds jobs₀ weight₀ jobs weight : ℕ} (
       record {
         jobs_are = omega (arith, (sums_set (n + 1)).0);
         weight_is = omega (arith, (sums_set (n + 1)).1, add-mul n 1 m, one-mul m);
+      }
+
+-- the sums of the first j kinds, at most 60 jobs each, for each of which at most 1000 pupils wait
+pub record Weighing (weights left : List ℕ) (jobs weight j : ℕ) : Type 0 where
+  pub sums : Summed weights (take j left) jobs weight
+  pub few : jobs ≤ 60 * j
+  pub light : weight ≤ 60000 * j
+
+pub weighing_none : {weights left : List ℕ} → Weighing weights left 0 0 0
+unfolding sum weigh
+weighing_none = record { sums = record { jobs_are = refl; weight_is = refl }; few = omega arith; light = omega arith }
+
+sum_more : (xs : List ℕ) (x : ℕ) → sum (xs ++ (x ∷ [])) ≡ sum xs + x
+unfolding sum
+sum_more [] x = omega arith
+sum_more (c ∷ cs) x = omega (arith, sum_more cs x)
+
+weigh_more : (f : ℕ → ℕ) (xs : List ℕ) (x : ℕ) → weigh f (xs ++ (x ∷ [])) ≡ weigh f xs + x * f (suc (length xs))
+unfolding weigh
+weigh_more f [] x = omega arith
+weigh_more f (c ∷ cs) x = omega (arith, weigh_more (λ j. f (suc j)) cs x)
+
+module _ {weights left : List ℕ} {jobs weight j : ℕ} (w : Weighing weights left jobs weight j) (few : get_or left j 0 ≤ 60) (light : get_or weights j 0 ≤ 1000) where
+  one_light : get_or left j 0 * get_or weights j 0 ≤ 60000
+  one_light = mul-le-mul {n₂ = 60} {m₂ = 1000} few light
+
+  pub weighing_more : j < length left → Weighing weights left (jobs + get_or left j 0) (weight + get_or left j 0 * get_or weights j 0) (j + 1)
+  weighing_more h =
+      let e : j + 1 ≡ suc j = omega arith in
+      let f : suc (length (take j left)) - 1 ≡ j = omega (arith, length-take-le j left (omega arith)) in
+      record {
+        sums = record {
+          jobs_are = rw (e, take-suc left j 0 h, sum_more, ← w.sums.jobs_are);
+          weight_is = rw (e, take-suc left j 0 h, weigh_more, f, ← w.sums.weight_is);
+        };
+        few = omega (arith, w.few);
+        light = omega (arith, w.light, one_light);
       }

@@ -3,6 +3,7 @@ use Rattle.std.specs.Prelude.{ℕ, suc, ◌-◌, ◌<◌, cond, List, [], ◌∷
 use Rattle.sequencing.specs.Lists.{at, sum, weigh}
 use Rattle.sequencing.specs.Problem.{Problem}
 use Rattle.sequencing.specs.Entries.{k_at, block}
+use Rattle.jobs_left.specs.declared.JobsLeft.{JobsLeft}
 
 -- k with one job of the first kind more that has one to add, and none of the kinds before it
 unfoldable pub next : List ℕ → List ℕ → List ℕ
@@ -21,3 +22,9 @@ pub record LeftAt (P : Problem) (left : List ℕ) (i : ℕ) : Type 0 where
   pub here : take P.N left ≡ k_at P i
   pub past : (j : ℕ) → P.N < j → at left j ≡ 0
   pub within : i < block P
+
+-- the same with the sums: what is left of the jobs of a problem
+pub record LeftOf (P : Problem) (k : JobsLeft) : Type 0 where
+  pub left_at : LeftAt P k.left k.index
+  pub jobs_are : k.jobs ≡ sum (k_at P k.index)
+  pub weight_is : k.weight ≡ weigh P.weight (k_at P k.index)

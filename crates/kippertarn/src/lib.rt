@@ -2,7 +2,7 @@
 // entries for 16, else 0.
 #![tactic(auto)]
 
-ghost use Rattle.std.specs.Prelude.{cond, ◌≡◌, ◌^◌, ◌<◌};
+ghost use Rattle.std.specs.Prelude.{◌≡◌, ◌^◌, ◌<◌};
 ghost use Rattle.refusal.specs.Reasons.{needed};
 ghost use Rattle.refusal.specs.Answers.{refusal_number, verdict_number, answer_number, entries_number, most_number};
 ghost use Rattle.queue.specs.Reading.{read_queue};
@@ -15,7 +15,7 @@ ghost use Rattle.table_size.specs.Sizes.{table_size};
 ghost use Rattle.table_size.specs.Sizing.{Sizing};
 ghost use Rattle.kippertarn.specs.Version.{version};
 
-use refusal::{Answer, Reason, TableSize, Verdict};
+use refusal::Reason;
 
 // The entries that the reason for 16 holds, else 0.
 fn needed_entries(reason: Reason) -> u64
@@ -32,45 +32,17 @@ fn refusal_number(reason: Reason) -> u64
     requires { refusal_number reason < 2 ^ 64 }
     ensures { result ≡ refusal_number reason }
 {
-    refusal::reason_number(reason) + 256 * needed_entries(reason)
+    reason.number() + 256 * needed_entries(reason)
 }
 
-// R of a verdict; V is 0.
-fn verdict_number(verdict: Verdict) -> u64
-    requires { verdict_number verdict < 2 ^ 64 }
-    ensures { result ≡ verdict_number verdict }
-{
-    match verdict {
-        Verdict::Accepted => 0,
-        Verdict::Refused(reason) => refusal_number(reason),
-    }
-}
-
-// R + 256 * V of an answer.
-fn answer_number(answer: Answer) -> u64
+// R + 256 * V of an answer, V being the number that it holds.
+fn answer_number(answer: Result<u64, Reason>) -> u64
     requires { answer_number answer < 2 ^ 64 }
     ensures { result ≡ answer_number answer }
 {
     match answer {
-        Answer::Planned(bytes) => 256 * bytes as u64,
-        Answer::Refused(reason) => refusal_number(reason),
-    }
-}
-
-// R + 256 * V of a table's size, V being its most kept states, or else its entries.
-fn size_number(size: TableSize, most: bool) -> u64
-    requires { (entries_number size < 2 ^ 64) × (most_number size < 2 ^ 64) }
-    ensures { result ≡ cond most (most_number size) (entries_number size) }
-{
-    match size {
-        TableSize::Known(sizes) => {
-            if most {
-                256 * sizes.most_feasible
-            } else {
-                256 * sizes.entries
-            }
-        }
-        TableSize::Refused(reason) => refusal_number(reason),
+        Ok(value) => 256 * value,
+        Err(reason) => refusal_number(reason),
     }
 }
 
@@ -79,9 +51,8 @@ fn size_number(size: TableSize, most: bool) -> u64
 pub extern "C" fn kippertarn_check_queue(message: &[u8]) -> u64
     ensures { result ≡ verdict_number (read_queue message.now).verdict }
 {
-    let reading = queue_reader::read_queue(message);
-    let verdict = reading.verdict;
-    verdict_number(verdict)
+    let accepted = queue_reader::read_queue(message).map(|_| 0);
+    answer_number(accepted)
 }
 
 // Whether a plan message is accepted, or the one refusal.
@@ -89,9 +60,8 @@ pub extern "C" fn kippertarn_check_queue(message: &[u8]) -> u64
 pub extern "C" fn kippertarn_check_plan(message: &[u8]) -> u64
     ensures { result ≡ verdict_number (read_plan message.now).verdict }
 {
-    let reading = plan_reader::read_plan(message);
-    let verdict = reading.verdict;
-    verdict_number(verdict)
+    let accepted = plan_reader::read_plan(message).map(|_| 0);
+    answer_number(accepted)
 }
 
 // Plans a queue message: V is the bytes of the written plan, and for 16 the needed entries.
@@ -100,8 +70,8 @@ pub extern "C" fn kippertarn_plan(message: &[u8], table: &mut [u64], plan: &mut 
     ensures value { result ≡ answer_number (answer_of (ending_on message.now table.old plan.old)) }
     ensures planning { Planning message.now table.old plan.old table.new plan.new (answer_of (ending_on message.now table.old plan.old)) }
 {
-    let answer = planner::plan(message, table, plan);
-    answer_number(answer)
+    let written = planner::plan(message, table, plan);
+    answer_number(written.map(|bytes| bytes as u64))
 }
 
 // Splits a queue message over two cutters: V is the bytes of the written split plan, and for 16 the needed entries.
@@ -115,8 +85,8 @@ pub extern "C" fn kippertarn_split(
     ensures value { result ≡ answer_number (answer_of (split_ending_on message.now second_start table.old plan.old)) }
     ensures splitting { Splitting message.now second_start table.old plan.old table.new plan.new (answer_of (split_ending_on message.now second_start table.old plan.old)) }
 {
-    let answer = splitter::split(message, second_start, table, plan);
-    answer_number(answer)
+    let written = splitter::split(message, second_start, table, plan);
+    answer_number(written.map(|bytes| bytes as u64))
 }
 
 // How many entries a table for a queue message needs: V is N times P.
@@ -125,8 +95,8 @@ pub extern "C" fn kippertarn_table_entries(message: &[u8]) -> u64
     ensures value { result ≡ entries_number (table_size (read_queue message.now)) }
     ensures sizing { Sizing message.now (table_size (read_queue message.now)) }
 {
-    let size = sizer::size_table(message);
-    size_number(size, false)
+    let sizes = sizer::size_table(message);
+    answer_number(sizes.map(|sizes| sizes.entries))
 }
 
 // How many states planning a queue message can keep at most: V is the largest kept count that the counts of its kinds allow.
@@ -135,8 +105,8 @@ pub extern "C" fn kippertarn_most_kept(message: &[u8]) -> u64
     ensures value { result ≡ most_number (table_size (read_queue message.now)) }
     ensures sizing { Sizing message.now (table_size (read_queue message.now)) }
 {
-    let size = sizer::size_table(message);
-    size_number(size, true)
+    let sizes = sizer::size_table(message);
+    answer_number(sizes.map(|sizes| sizes.most_feasible))
 }
 
 // The version of the archive, to be matched with the header's.

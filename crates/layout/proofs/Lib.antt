@@ -6,4 +6,5 @@ pub mod ByKind
 pub mod Places
 pub mod PlaceSets
 pub mod Prepared
+pub mod AllLeft
 pub mod Strides

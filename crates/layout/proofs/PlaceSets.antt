@@ -1,8 +1,7 @@
--- Sets of places: the bit of one place, whether it is in a range, and an array of ranges.
+-- Sets of places: the bit of one place, and whether it is in a range.
 -- Assumes nothing.
 use Prim.Native.Nat.{ℕ, suc, ◌+◌, ◌-◌, ◌*◌, ◌/◌, ◌%◌, ◌^◌, ◌<◌, ◌≤◌}
 use mathlib.Core.Bool.{true, false, ◌&&◌, and-false}
-use mathlib.Core.List.{List}
 use mathlib.Core.Logic.{inl, inr}
 use mathlib.Core.Path.{◌≡◌, refl, sym, ap, ◌∙◌}
 use native.Mathlib.Omega.{arith}
@@ -10,11 +9,9 @@ use native.Mathlib.Nat.{mul_comm, mul-sub, one-mul, zero-mul, suc-mul, pow-suc}
 use borrow.Author.Tests.{lt-ltb, le-ltb, le-leb, lt-leb}
 use lib.Bits.{bit_and, and_high}
 use lib.Dec.{leb}
-use lib.ListN.{length, get_or, set, length-set}
 use lib.Pow.{pow_pos, pow_mono, pow-add, shl_exact, high, suc_ones}
-use lib.Seq.{get_or-set_same, get_or-set_other}
 use Rattle.number.proofs.Steps.{below_or_not}
-use Rattle.layout.specs.PlaceSets.{places_from, is_in, set_at}
+use Rattle.layout.specs.PlaceSets.{places_from, is_in}
 
 -- ---- the bit of a place
 
@@ -93,31 +90,3 @@ in_places a b p few = ap (is_in (2 ^ p)) (range_is a b few) ∙ elim (below_or_n
     | inr behind ↦ range_in a b p behind within ∙ sym (rw (le-leb a p behind, le-leb p b within))
   ]
 ]
-
--- ---- an array of ranges
-
--- of the slots that are used the first i hold their ranges, all others what they held
-pub record Ranges (earliest latest : List ℕ) (used : ℕ) (places₀ places : List ℕ) (i : ℕ) : Type 0 where
-  pub few : i ≤ used
-  pub long : length places ≡ length places₀
-  pub slots_are : (k : ℕ) → get_or places k 0 ≡ set_at earliest latest i places₀ k
-
-pub ranges_none : {earliest latest : List ℕ} {used : ℕ} {places : List ℕ} → Ranges earliest latest used places places 0
-ranges_none = record { few = omega arith; long = refl; slots_are = λ k. rw (le-ltb k 0 (omega arith)) }
-
-module _ {earliest latest : List ℕ} {used : ℕ} {places₀ places : List ℕ} {i : ℕ} (w : Ranges earliest latest used places₀ places i) where
-  pub ranges_more : (x : ℕ) → i < used → i < length places₀ → x ≡ places_from (get_or earliest i 0) (get_or latest i 0) → Ranges earliest latest used places₀ (set places i x) (i + 1)
-  ranges_more x l h e = record {
-    few = omega arith;
-    long = length-set places i x ∙ w.long;
-    slots_are = λ k. elim (below_or_not k i) [
-      | inl l ↦ get_or-set_other places i k x 0 (λ d. omega arith) ∙ w.slots_are k ∙ rw (lt-ltb k i l, lt-ltb k (i + 1) (omega arith))
-      | inr l ↦ elim (below_or_not i k) [
-        | inl u ↦ get_or-set_other places i k x 0 (λ d. omega arith) ∙ w.slots_are k ∙ rw (le-ltb k i l, le-ltb k (i + 1) (omega arith))
-        | inr u ↦ (let d : k ≡ i = omega arith in rw (d, lt-ltb i (i + 1) (omega arith)) (get_or-set_same places i x 0 (omega (arith, w.long)) ∙ e))
-      ]
-    ];
-  }
-
-  pub ranges_done : used ≤ i → (k : ℕ) → get_or places k 0 ≡ set_at earliest latest used places₀ k
-  ranges_done h = let e : i ≡ used = omega (arith, w.few) in rw e at w.slots_are

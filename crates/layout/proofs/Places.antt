@@ -14,7 +14,7 @@ use Rattle.number.proofs.Steps.{below_or_not}
 use Rattle.fields.specs.Lists.{tabulate}
 use Rattle.fields.proofs.Tables.{tabulate_ext}
 use Rattle.queue.specs.declared.Queue.{Queue}
-use Rattle.queue.specs.Record.{kind, Valid}
+use Rattle.queue.specs.Record.{no_window, first_place, last_place, kind, Valid}
 use Rattle.sequencing.specs.Lists.{at, upto}
 use Rattle.sequencing.specs.Problem.{Problem, T, kind as kindIn}
 use Rattle.sequencing.specs.States.{jobs_of, K}
@@ -29,7 +29,6 @@ use Rattle.layout.specs.Steps.{Listed, cut_of, earliest_of, latest_of}
 use Rattle.layout.proofs.Blocks.{sum_slots}
 use Rattle.layout.proofs.Positions.{length_filled, of_kinds, counts_in, begin_few, by_kind_at}
 use Rattle.layout.proofs.Storing.{Storing, storing_none, storing_more, storing_done, storing_kinds, ahead, Laying, laying_none, laying_more, laying_done}
-use Rattle.layout.proofs.Listing.{at_get_d}
 
 -- ---- one kind
 
@@ -38,10 +37,6 @@ pub record Placing (jobs : List ℕ) (from count slot first last shift : ℕ) (e
   pub few : n ≤ count
   pub firsts : Storing (earliest_of jobs from count first shift) 0 (count + 1) earliest₀ slot earliest n
   pub lasts : Storing (latest_of jobs from count last shift) 0 (count + 1) latest₀ slot latest n
-
-pub placing_none : {jobs : List ℕ} {from count slot first last shift : ℕ} {earliest₀ latest₀ : List ℕ}
-    → Placing jobs from count slot first last shift earliest₀ latest₀ earliest₀ latest₀ 0
-placing_none = record { few = omega arith; firsts = storing_none; lasts = storing_none }
 
 module _ {jobs : List ℕ} {from count slot first last shift : ℕ} {earliest₀ latest₀ earliest latest : List ℕ} {n : ℕ}
     (w : Placing jobs from count slot first last shift earliest₀ latest₀ earliest latest n) where
@@ -75,21 +70,21 @@ module _ {jobs : List ℕ} {from count slot first last shift : ℕ} {earliest₀
 abbrev pub slots_of : List ℕ → (ℕ → ℕ → ℕ) → ℕ → List ℕ
 slots_of counts f L = tabulate (f L) 0 (at counts L + 1)
 
-module _ (counts begins jobs bounds : List ℕ) (shift : ℕ) where
+module _ (counts begins jobs : List ℕ) (bound : ℕ → ℕ) (shift : ℕ) where
   -- with its first places, and with its last
   abbrev pub firsts_of : ℕ → List ℕ
-  firsts_of = slots_of counts (λ L. earliest_of jobs (at begins L) (at counts L) (at bounds L) shift)
+  firsts_of = slots_of counts (λ L. earliest_of jobs (at begins L) (at counts L) (bound L) shift)
 
   abbrev pub lasts_of : ℕ → List ℕ
-  lasts_of = slots_of counts (λ L. latest_of jobs (at begins L) (at counts L) (at bounds L) shift)
+  lasts_of = slots_of counts (λ L. latest_of jobs (at begins L) (at counts L) (bound L) shift)
 
 -- the slots of the first k kinds are set
-pub record Slotting (counts begins jobs first last : List ℕ) (shift kinds : ℕ) (slots₀ earliest₀ latest₀ slots earliest latest : List ℕ) (k : ℕ) : Type 0 where
+pub record Slotting (counts begins jobs : List ℕ) (first last : ℕ → ℕ) (shift kinds : ℕ) (slots₀ earliest₀ latest₀ slots earliest latest : List ℕ) (k : ℕ) : Type 0 where
   pub slotting : Storing (λ L. at begins L + (L - 1)) 1 kinds slots₀ 0 slots k
   pub firsts : Laying (firsts_of counts begins jobs first shift) kinds earliest₀ earliest k
   pub lasts : Laying (lasts_of counts begins jobs last shift) kinds latest₀ latest k
 
-pub slotting_none : {counts begins jobs first last : List ℕ} {shift kinds : ℕ} {slots₀ earliest₀ latest₀ : List ℕ}
+pub slotting_none : {counts begins jobs : List ℕ} {first last : ℕ → ℕ} {shift kinds : ℕ} {slots₀ earliest₀ latest₀ : List ℕ}
     → Slotting counts begins jobs first last shift kinds slots₀ earliest₀ latest₀ slots₀ earliest₀ latest₀ 0
 slotting_none = record { slotting = storing_none; firsts = laying_none; lasts = laying_none }
 
@@ -128,15 +123,15 @@ module _ {q : Queue} (v : Valid q) {counts begins jobs : List ℕ} (listed : Lis
         rw (listed.jobs_by_kind, begin_is L h u, count_is L h) (by_kind_at q v L (K P L - 1 - n) h u (omega arith) ∙ ap (at (jobs_of P L)) e)
 
   -- the slots of a kind are the queue's
-  slots_are : (g : ℕ → ℕ → ℕ) (xs : List ℕ) (d L : ℕ) → 1 ≤ L → L ≤ q.kinds
-      → tabulate (λ n. cond (ltb n (at counts L)) (g (at xs L) (cut_of jobs (at begins L) (at counts L) n)) d) 0 (at counts L + 1)
-      ≡ tabulate (λ n. cond (ltb n (K P L)) (g (get_or xs (kind q (job_cut P L n) - 1) 0) (job_cut P L n)) d) 0 (K P L + 1)
-  slots_are g xs d L h u =
-      ap (λ m. tabulate (λ n. cond (ltb n m) (g (at xs L) (cut_of jobs (at begins L) (at counts L) n)) d) 0 (m + 1)) (count_is L h)
-      ∙ tabulate_ext (λ n. cond (ltb n (K P L)) (g (at xs L) (cut_of jobs (at begins L) (at counts L) n)) d)
-      (λ n. cond (ltb n (K P L)) (g (get_or xs (kind q (job_cut P L n) - 1) 0) (job_cut P L n)) d) 0 (K P L + 1)
+  slots_are : (g : ℕ → ℕ → ℕ) (bound : ℕ → ℕ) (d L : ℕ) → 1 ≤ L → L ≤ q.kinds
+      → tabulate (λ n. cond (ltb n (at counts L)) (g (bound L) (cut_of jobs (at begins L) (at counts L) n)) d) 0 (at counts L + 1)
+      ≡ tabulate (λ n. cond (ltb n (K P L)) (g (bound (kind q (job_cut P L n))) (job_cut P L n)) d) 0 (K P L + 1)
+  slots_are g bound d L h u =
+      ap (λ m. tabulate (λ n. cond (ltb n m) (g (bound L) (cut_of jobs (at begins L) (at counts L) n)) d) 0 (m + 1)) (count_is L h)
+      ∙ tabulate_ext (λ n. cond (ltb n (K P L)) (g (bound L) (cut_of jobs (at begins L) (at counts L) n)) d)
+      (λ n. cond (ltb n (K P L)) (g (bound (kind q (job_cut P L n))) (job_cut P L n)) d) 0 (K P L + 1)
       (λ n l m. elim (below_or_not n (K P L)) [
-        | inl few ↦ rw (lt-ltb n (K P L) few, cut_is L n h u few, kind_cut q L n h few, at_get_d xs L h)
+        | inl few ↦ rw (lt-ltb n (K P L) few, cut_is L n h u few, kind_cut q L n h few)
         | inr all ↦ rw (le-ltb n (K P L) all)
       ])
 
@@ -156,19 +151,21 @@ module _ {q : Queue} (v : Valid q) {counts begins jobs : List ℕ} (listed : Lis
   }
 
   module _ {slots₀ earliest₀ latest₀ slots earliest latest : List ℕ} {k : ℕ}
-      (w : Slotting counts begins jobs q.first_places q.last_places q.max_shift q.kinds slots₀ earliest₀ latest₀ slots earliest latest k) where
+      (w : Slotting counts begins jobs (first_place q) (last_place q) q.max_shift q.kinds slots₀ earliest₀ latest₀ slots earliest latest k) where
     pub slotting_more : (earliest' latest' : List ℕ) → k < q.kinds
-        → earliest' ≡ sets earliest (get_or begins k 0 + k) (firsts_of counts begins jobs q.first_places q.max_shift (suc k))
-        → latest' ≡ sets latest (get_or begins k 0 + k) (lasts_of counts begins jobs q.last_places q.max_shift (suc k))
-        → Slotting counts begins jobs q.first_places q.last_places q.max_shift q.kinds slots₀ earliest₀ latest₀ (set slots k (get_or begins k 0 + k)) earliest' latest' (k + 1)
+        → earliest' ≡ sets earliest (get_or begins k 0 + k) (firsts_of counts begins jobs (λ _. (get_or q.windows k no_window).first) q.max_shift (suc k))
+        → latest' ≡ sets latest (get_or begins k 0 + k) (lasts_of counts begins jobs (λ _. (get_or q.windows k no_window).last) q.max_shift (suc k))
+        → Slotting counts begins jobs (first_place q) (last_place q) q.max_shift q.kinds slots₀ earliest₀ latest₀ (set slots k (get_or begins k 0 + k)) earliest' latest' (k + 1)
     slotting_more earliest' latest' h e d =
         let p : 1 + k ≡ suc k = omega arith in
         let r : suc k - 1 ≡ k = omega arith in
         let s : k + 1 ≡ suc k = omega arith in
+        let first_is : first_place q (suc k) ≡ (get_or q.windows k no_window).first = ap (λ i. (get_or q.windows i no_window).first) r in
+        let last_is : last_place q (suc k) ≡ (get_or q.windows k no_window).last = ap (λ i. (get_or q.windows i no_window).last) r in
         record {
           slotting = storing_more w.slotting h k (get_or begins k 0 + k) (omega arith) (rw (p, r));
-          firsts = laying_more w.firsts h (get_or begins k 0 + k) earliest' (ahead_is _ k h) (rw s e);
-          lasts = laying_more w.lasts h (get_or begins k 0 + k) latest' (ahead_is _ k h) (rw s d);
+          firsts = laying_more w.firsts h (get_or begins k 0 + k) earliest' (ahead_is _ k h) (rw (s, first_is) e);
+          lasts = laying_more w.lasts h (get_or begins k 0 + k) latest' (ahead_is _ k h) (rw (s, last_is) d);
         }
 
     pub slotting_done : q.kinds ≤ k
@@ -178,7 +175,7 @@ module _ {q : Queue} (v : Valid q) {counts begins jobs : List ℕ} (listed : Lis
     slotting_done h = (
       storing_kinds w.slotting h (slot_of P) (λ L l u. ap (λ n. n + (L - 1)) (begin_is L l u)),
       (
-        laying_done w.firsts h _ (slots_are (λ a i. max a (i - q.max_shift)) q.first_places 1),
-        laying_done w.lasts h _ (slots_are (λ b i. min b (i + q.max_shift)) q.last_places 0),
+        laying_done w.firsts h _ (slots_are (λ a i. max a (i - q.max_shift)) (first_place q) 1),
+        laying_done w.lasts h _ (slots_are (λ b i. min b (i + q.max_shift)) (last_place q) 0),
       ),
     )

@@ -9,7 +9,6 @@ use native.Mathlib.Omega.{arith}
 use borrow.Author.Tests.{le-leb, lt-leb, lt-ltb, le-ltb}
 use lib.Dec.{leb, ltb}
 use lib.ListN.{length, get_or, take, replicate}
-use lib.Seq.{length-sets}
 use Rattle.queue.specs.declared.Queue.{Queue}
 use Rattle.queue.specs.Record.{Valid}
 use Rattle.sequencing.specs.Lists.{at, upto}
@@ -69,12 +68,6 @@ module _ {q : Queue} (v : Valid q) {l : Layout} (p : Prepared q l) where
   pub jobs_long : length l.jobs ≡ 60
   jobs_long = ap length p.jobs_by_kind ∙ length_filled 60 (by_kind (problem q))
 
-  pub earliest_long : length l.earliest ≡ 65
-  earliest_long = ap length p.earliest_are ∙ length-sets (replicate 65 1) 0 (by_slot (problem q) (earliest_at q))
-
-  pub latest_long : length l.latest ≡ 65
-  latest_long = ap length p.latest_are ∙ length_filled 65 (by_slot (problem q) (latest_at q))
-
   -- ---- the jobs of each kind
 
   pub counts_at : (j : ℕ) → 1 ≤ j → at l.counts j ≡ K (problem q) j
@@ -94,10 +87,6 @@ module _ {q : Queue} (v : Valid q) {l : Layout} (p : Prepared q l) where
 
   pub block_at : (x : ℕ) → 1 ≤ x → x ≤ q.kinds → at l.blocks x ≡ (x - 1) * block (problem q)
   block_at x h u = ap (λ bs. at bs x) p.blocks_are ∙ of_kinds (λ x. (x - 1) * block (problem q)) 5 q.kinds v.kinds.1 x h u
-
-  -- the slots that are used: one for each job, and one more for each kind
-  pub used_few : l.size.jobs + l.size.kinds ≤ 65
-  used_few = omega (arith, p.jobs_are, p.kinds_are, v.jobs, v.kinds)
 
   -- no place permitted is past 60
   pub latest_few : (L n : ℕ) → 1 ≤ L → L ≤ q.kinds → latest_at q L n ≤ 60

@@ -1,10 +1,10 @@
 -- The strides of all kinds, as one list, and where their entries begin.
 -- Assumes nothing.
-use Prim.Native.Nat.{ℕ, suc, ◌+◌, ◌-◌, ◌*◌, ◌^◌, ◌≤◌, ◌<◌}
+use Prim.Native.Nat.{ℕ, suc, ◌+◌, ◌-◌, ◌*◌, ◌≤◌, ◌<◌}
 use mathlib.Core.List.{List, map}
 use mathlib.Core.Logic.{inl, inr}
 use mathlib.Core.Path.{◌≡◌, refl, sym, ap, ◌∙◌}
-use native.Mathlib.Nat.{zero-mul, suc-mul, mul-le-mul_right}
+use native.Mathlib.Nat.{suc-mul}
 use native.Mathlib.Omega.{arith}
 use lib.ListN.{length, get_or, set, take, length-map}
 use lib.Seq.{sets, length-sets, ext_get_or}
@@ -16,7 +16,7 @@ use Rattle.sequencing.proofs.Counting.{length_from}
 use Rattle.sequencing.proofs.AllJobs.{get_d_map_from}
 use Rattle.jobs_left.proofs.Fronts.{Striding, striding_done, striding_rest}
 use Rattle.layout.proofs.Blocks.{get_d_sets_in}
-use Rattle.layout.proofs.Storing.{Storing, storing_none, storing_more, storing_kinds}
+use Rattle.layout.proofs.Storing.{Storing, storing_more, storing_kinds}
 
 -- ---- strides
 
@@ -40,13 +40,7 @@ pub record Spacing (block kinds : ℕ) (blocks₀ blocks : List ℕ) (at j : ℕ
   pub stored : Storing (λ x. (x - 1) * block) 1 kinds blocks₀ 0 blocks j
   pub next : at ≡ j * block
 
-pub spacing_none : {block kinds : ℕ} {blocks₀ : List ℕ} → Spacing block kinds blocks₀ blocks₀ 0 0
-spacing_none {block} = record { stored = storing_none; next = sym (zero-mul block) }
-
 module _ {block kinds : ℕ} {blocks₀ blocks : List ℕ} {at j : ℕ} (w : Spacing block kinds blocks₀ blocks at j) where
-  pub spacing_fits : j < kinds → kinds * block < 2 ^ 64 → at + block < 2 ^ 64
-  spacing_fits h l = omega (arith, w.next, suc-mul j block, mul-le-mul_right {m = suc j} {n = kinds} block h)
-
   pub spacing_more : j < kinds → Spacing block kinds blocks₀ (set blocks j at) (at + block) (j + 1)
   spacing_more h =
       let p : 1 + j - 1 ≡ j = omega arith in

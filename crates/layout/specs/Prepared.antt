@@ -2,7 +2,6 @@
 use Rattle.std.specs.Prelude.{ℕ, ◌+◌, ◌-◌, ◌*◌, cond, ◌≡◌, ltb, replicate}
 use mathlib.Core.List.{List, map, flat_map}
 use Rattle.std.proofs.lemmas.List.Edits.{sets}
-use Rattle.gaps.specs.Gaps.{has_never}
 use Rattle.fields.specs.Lists.{tabulate, filled}
 use Rattle.queue.specs.declared.Queue.{Queue}
 use Rattle.sequencing.specs.Lists.{at, sum, upto}
@@ -56,4 +55,4 @@ module _ (q : Queue) where
     pub slots_are : l.slots ≡ filled 5 (map (slot_of (problem q)) (upto q.kinds))
     pub strides_are : l.strides ≡ filled 5 (map (stride (all_left (problem q))) (upto q.kinds))
     pub blocks_are : l.blocks ≡ filled 5 (map (λ x. (x - 1) * block (problem q)) (upto q.kinds))
-    pub forbids_is : l.forbids ≡ has_never q.gaps
+    pub gaps_are : l.gaps.numbers ≡ q.gaps

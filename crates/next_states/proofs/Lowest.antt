@@ -1,29 +1,23 @@
 -- The least over the kinds passed, as the loop over them holds it.
 -- Assumes nothing.
 use Prim.Native.Nat.{ℕ, suc, ◌+◌, ◌-◌, ◌^◌, ◌<◌, ◌≤◌, min}
-use mathlib.Core.Bool.{true, false, cond}
+use mathlib.Core.Bool.{not, true, false, cond}
 use mathlib.Core.Option.{Option, none, some}
 use mathlib.Core.Path.{◌≡◌, refl, sym, ap, ◌∙◌}
 use native.Mathlib.Numerals.{add-one}
 use native.Mathlib.Omega.{arith}
-use lib.Dec.{ltb}
-use borrow.Author.Tests.{le-ltb, ltb-true, ltb-false}
+use lib.Dec.{ltb, eqb}
+use borrow.Author.Tests.{eq-eqb, ne_eqb, ltb-true, ltb-false}
 use Rattle.units.specs.declared.Cost.{Cost}
 use Rattle.units.specs.Costs.{cost_in, number_of}
 use Rattle.units.proofs.Costs.{number_is}
+use Rattle.std.specs.Bool.{then_some}
 use Rattle.sequencing.specs.Least.{least, arg_least}
 use Rattle.sequencing.proofs.Options.{none_some}
 use Rattle.sequencing.specs.Entries.{stored}
 use Rattle.next_states.specs.declared.Least.{Least}
-use Rattle.next_states.specs.NextStates.{IsLeast}
-use Rattle.next_states.proofs.Stored.{Fits, fits_stored, fits_least, stored_lower, stored_taken, stored_none, least_past, arg_past}
-
--- a kind that nothing is found for changes nothing
-pub unchanged : (goal : ℕ) {best : Least} (v : Option ℕ) (kind : ℕ) → v ≡ none → best.cost ≡ cost_in goal (number_of best.cost) → number_of best.cost < 2 ^ 64
-    → (best.cost ≡ cost_in goal (min (number_of best.cost) (stored v))) × (best.kind ≡ cond (ltb (stored v) (number_of best.cost)) kind best.kind)
-unchanged goal {best} v kind e unit fits =
-    let n = number_of best.cost in
-    rw (e, le-ltb (2 ^ 64 - 1) n (omega arith)) (unit ∙ ap (cost_in goal) (omega arith), refl)
+use Rattle.next_states.specs.NextStates.{least_answer}
+use Rattle.next_states.proofs.Stored.{Fits, fits_stored, fits_least, stored_lower, stored_taken, least_past, arg_past}
 
 -- a kind that comes to n changes the least only where it costs less
 module _ (goal : ℕ) {n : ℕ} {v : Option ℕ} (v-is : v ≡ some n) {cost : Cost} (cost_is : cost ≡ cost_in goal n) (best : Least) (kind : ℕ) where
@@ -44,12 +38,11 @@ pub record Lowest (goal : ℕ) (f : ℕ → Option ℕ) (best : Least) (x : ℕ)
   pub few : x ≤ 5
   pub cost_is : best.cost ≡ cost_in goal (stored (least f x))
   pub kind_is : (c : ℕ) → least f x ≡ some c → best.kind ≡ arg_least f x
-  pub no_kind : least f x ≡ none → best.kind ≡ 0
 
 module _ {goal : ℕ} {f : ℕ → Option ℕ} {best : Least} where
-  pub lowest_none : best.cost ≡ cost_in goal (2 ^ 64 - 1) → best.kind ≡ 0 → Lowest goal f best 0
+  pub lowest_none : best.cost ≡ cost_in goal (2 ^ 64 - 1) → Lowest goal f best 0
   unfolding least
-  lowest_none e z = record { few = omega arith; cost_is = e; kind_is = λ c s. absurd (none_some c s); no_kind = λ s. z }
+  lowest_none e = record { few = omega arith; cost_is = e; kind_is = λ c s. absurd (none_some c s) }
 
   module _ {x : ℕ} (w : Lowest goal f best x) where
     so_far : number_of best.cost ≡ stored (least f x)
@@ -75,20 +68,30 @@ module _ {goal : ℕ} {f : ℕ → Option ℕ} {best : Least} where
           few = omega arith;
           cost_is = cost ∙ rw (v-is, so_far, add-one) (ap (cost_in goal) (sym (stored_lower (least f x) (f (suc x)) a b)));
           kind_is = λ c e. kind ∙ rw (v-is, so_far, add-one) (stored_taken (least f x) (f (suc x)) best.kind (arg_least f x) (suc x) a b w.kind_is c (rw add-one at e));
-          no_kind = λ e. kind ∙ rw (v-is, so_far, add-one) (stored_none (least f x) (f (suc x)) best.kind (suc x) w.no_kind (rw add-one at e));
         }
 
-    pub lowest_done : 5 ≤ x → IsLeast goal f best
-    lowest_done h = let e : 5 ≡ x = omega (arith, w.few) in record { cost_is = rw e w.cost_is; kind_is = rw e w.kind_is; no_kind = rw e w.no_kind }
-
     -- where nothing is found for the kinds past x, that is the least over all
-    pub lowest_past : ((y : ℕ) → x < y → y ≤ 5 → f y ≡ none) → IsLeast goal f best
+    pub lowest_past : ((y : ℕ) → x < y → y ≤ 5 → f y ≡ none) → Lowest goal f best 5
     lowest_past past =
         let e : x + (5 - x) ≡ 5 = omega (arith, w.few) in
         let h : (y : ℕ) → x < y → y ≤ x + (5 - x) → f y ≡ none = λ y l u. past y l (omega (arith, w.few)) in
         let same : least f 5 ≡ least f x = rw e at (least_past f x (5 - x) h) in
         record {
+          few = omega arith;
           cost_is = w.cost_is ∙ ap (λ (v : Option ℕ). cost_in goal (stored v)) (sym same);
           kind_is = λ c s. w.kind_is c (sym same ∙ s) ∙ sym (rw e at (arg_past f x (5 - x) h c (sym same ∙ s)));
-          no_kind = λ s. w.no_kind (sym same ∙ s);
         }
+
+  -- the least over all as it is answered: there is none where its number is 2^64 − 1
+  pub lowest_answer : Lowest goal f best 5 → ((y : ℕ) → 1 ≤ y → y ≤ 5 → Fits (f y)) → {n : ℕ} → n ≡ number_of best.cost
+      → then_some (not (eqb n (2 ^ 64 - 1))) best ≡ least_answer goal (arg_least f 5) (least f 5)
+  lowest_answer w small {n} n-is = go (least f 5) refl
+    where
+      go : (m : Option ℕ) → least f 5 ≡ m → then_some (not (eqb n (2 ^ 64 - 1))) best ≡ least_answer goal (arg_least f 5) m
+      go none e = rw (eq-eqb n (2 ^ 64 - 1) (n-is ∙ so_far w ∙ ap stored e))
+      go (some c) e =
+          let is : n ≡ c = n-is ∙ so_far w ∙ ap stored e in
+          let all : Fits (least f 5) = fits_least f 5 small in
+          let below : c < 2 ^ 64 - 1 = rw e at all in
+          let cost : best.cost ≡ cost_in goal c = w.cost_is ∙ ap (λ (v : Option ℕ). cost_in goal (stored v)) e in
+          rw (ne_eqb n (2 ^ 64 - 1) (λ z. omega arith), sym (w.kind_is c e), sym cost)

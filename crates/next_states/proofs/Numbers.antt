@@ -1,14 +1,14 @@
 -- Entry numbers that run along with k: the arrays give 01's number of the state and of each next state.
 -- Assumes nothing.
-use Prim.Native.Nat.{ℕ, zero, suc, ◌+◌, ◌-◌, ◌*◌, ◌^◌, ◌≤◌, ◌<◌}
+use Prim.Native.Nat.{ℕ, zero, suc, ◌+◌, ◌-◌, ◌*◌, ◌≤◌, ◌<◌}
 use mathlib.Core.List.{List}
-use mathlib.Core.Logic.{inl, inr}
+use mathlib.Core.Logic.{inl, inr, ◌≢◌}
 use mathlib.Core.Path.{◌≡◌, sym, ap, ◌∙◌}
 use native.Mathlib.Nat.{eq-zero-or-pos}
 use native.Mathlib.Omega.{arith}
 use lib.Arith.{digits_lt}
 use lib.ListN.{get_or}
-use Rattle.number.proofs.Steps.{below_or_not}
+use Rattle.std.proofs.lemmas.Bool.{cases_lt}
 use Rattle.sequencing.specs.Lists.{at}
 use Rattle.sequencing.specs.Problem.{Problem}
 use Rattle.sequencing.specs.States.{complete, all_left}
@@ -18,7 +18,11 @@ use Rattle.sequencing.proofs.Radix.{index_digits, index_complete, digits_length}
 use Rattle.sequencing.proofs.Vectors.{at_in}
 use Rattle.jobs_left.specs.Steps.{LeftAt}
 use Rattle.jobs_left.proofs.LeftAt.{left_at, stride_within}
-use Rattle.next_states.specs.Numbers.{Numbers, Steppable}
+use Rattle.layout.specs.declared.Setup.{Setup}
+use Rattle.layout.proofs.Prepared.{stride_at, block_at}
+use Rattle.problem.specs.OfQueue.{problem}
+use Rattle.problem.proofs.Sizes.{entries_small}
+use Rattle.next_states.specs.Numbers.{Steppable}
 
 -- ---- 01's number
 
@@ -52,42 +56,41 @@ next_below P i x h some =
 -- ---- k in an array
 
 pub left_is : {P : Problem} {left : List ℕ} {i : ℕ} → LeftAt P left i → (x : ℕ) → 1 ≤ x → at left x ≡ at (k_at P i) x
-left_is {P} {left} {i} w x l = elim (below_or_not P.N x) [
+left_is {P} {left} {i} w x l = elim (cases_lt P.N x) [
   | inl b ↦ (elim (eq-zero-or-pos (at (k_at P i) x)) [ inl e ↦ w.past x b ∙ sym e | inr h ↦ absurd (omega (arith, kind_in P i x h)) ])
   | inr b ↦ left_at w x l b
 ]
 
+-- a job of kind x, from 0, is left
+pub some_left : {P : Problem} {left : List ℕ} {i : ℕ} → LeftAt P left i → (x : ℕ) → get_or left x 0 ≢ 0 → 0 < at (k_at P i) (suc x)
+some_left w x n = omega (arith, left_is w (suc x) (omega arith))
+
 -- ---- by the arrays
 
--- a step to kind x is a number of 64 bits
-pub step_fits : {strides blocks : List ℕ} {i x : ℕ} → Steppable strides blocks i x → (y z : ℕ) → z ≤ x → i - get_or strides y 0 + get_or blocks z 0 < 2 ^ 64
-step_fits s y z h = omega (arith, s.fits z h)
+module _ (s : Setup) {i : ℕ} (in_block : i < block (problem s.queue)) where
+  stride_is : (x : ℕ) → 1 ≤ x → x ≤ s.queue.kinds → at s.layout.strides x ≡ stride (all_left (problem s.queue)) x
+  stride_is = stride_at s.valid s.prepared
 
-module _ {P : Problem} {strides blocks : List ℕ} {i : ℕ} (n : Numbers P strides blocks) (in_block : i < block P) where
+  block_is : (l : ℕ) → l < s.queue.kinds → get_or s.layout.blocks l 0 ≡ l * block (problem s.queue)
+  block_is l h = let e : suc l - 1 ≡ l = omega arith in rw e at (block_at s.valid s.prepared (suc l) (omega arith) h)
+
   -- (L; k), L from 0
-  pub state_number : (l : ℕ) → l < P.N → i + get_or blocks l 0 ≡ number P (suc l) (k_at P i)
-  state_number l h =
-      let s : suc l - 1 ≡ l = omega arith in
-      let b : get_or blocks l 0 ≡ l * block P = rw s at (n.block_is (suc l) (omega arith) h) in
-      omega (arith, number_at P l i in_block)
+  pub state_number : (l : ℕ) → l < s.queue.kinds → i + get_or s.layout.blocks l 0 ≡ number (problem s.queue) (suc l) (k_at (problem s.queue) i)
+  state_number l h = omega (arith, block_is l h, number_at (problem s.queue) l i in_block)
 
   -- the next state by way of kind x, from 0
-  module _ (x : ℕ) (some : 0 < at (k_at P i) (suc x)) where
-    pub next_number : i - get_or strides x 0 + get_or blocks x 0 ≡ number P (suc x) (complete (k_at P i) (suc x))
+  module _ (x : ℕ) (some : 0 < at (k_at (problem s.queue) i) (suc x)) where
+    pub next_number : i - get_or s.layout.strides x 0 + get_or s.layout.blocks x 0 ≡ number (problem s.queue) (suc x) (complete (k_at (problem s.queue) i) (suc x))
     next_number =
-        let (low, high) = kind_in P i (suc x) some in
-        omega (arith, n.stride_is (suc x) low high, n.block_is (suc x) low high, number_next P i (suc x) in_block some)
+        let (low, high) = kind_in (problem s.queue) i (suc x) some in
+        omega (arith, stride_is (suc x) low high, block_at s.valid s.prepared (suc x) low high, number_next (problem s.queue) i (suc x) in_block some)
 
-    pub steppable : entries P < 2 ^ 64 → Steppable strides blocks i x
-    steppable fits =
-        let (low, high) = kind_in P i (suc x) some in
+    pub steppable : Steppable s.layout.strides s.layout.blocks i x
+    steppable =
+        let (low, high) = kind_in (problem s.queue) i (suc x) some in
         record {
-          strides_long = n.strides_long;
-          blocks_long = n.blocks_long;
-          x_in = omega (arith, n.few);
-          lower = λ y l. omega (arith, n.stride_is (suc y) (omega arith) (omega arith), stride_below P i (suc x) (suc y) in_block some (omega arith));
+          x_in = omega (arith, s.valid.kinds.1);
+          lower = λ y l. omega (arith, stride_is (suc y) (omega arith) (omega arith), stride_below (problem s.queue) i (suc x) (suc y) in_block some (omega arith));
           fits = λ y l.
-              let s : suc y - 1 ≡ y = omega arith in
-              let b : get_or blocks y 0 ≡ y * block P = rw s at (n.block_is (suc y) (omega arith) (omega arith)) in
-              omega (arith, digits_lt {q = y} {m = P.N} (omega arith) in_block);
+              omega (arith, block_is y (omega arith), digits_lt {q = y} {m = s.queue.kinds} (omega arith) in_block, entries_small s.queue s.valid);
         }

@@ -10,7 +10,7 @@ use native.Mathlib.Omega.{arith}
 use lib.Dec.{leb, ltb, eqb}
 use borrow.Author.Tests.{lt-ltb, le-ltb, ne_eqb, eqb-true, leb-true, leb-false}
 use Rattle.sequencing.specs.Least.{only, lower, reaches, least, arg_least}
-use Rattle.number.proofs.Steps.{bool_cases}
+use Rattle.std.proofs.lemmas.Bool.{cases_Bool}
 use Rattle.sequencing.proofs.Options.{none_some}
 use Rattle.sequencing.proofs.Least.{smallest}
 use Rattle.sequencing.specs.Entries.{stored}
@@ -39,15 +39,15 @@ fits_stored (some c) h = omega arith
 pub loaded_some : (v : ℕ) → v ≢ 2 ^ 64 - 1 → loaded v ≡ some v
 loaded_some v n = rw (ne_eqb v (2 ^ 64 - 1) n)
 
-pub loaded_found : (v : ℕ) → v ≢ 2 ^ 64 - 1 → loaded v ≢ none
-loaded_found v n e = none_some v (sym e ∙ loaded_some v n)
+pub loaded_none : (v : ℕ) → loaded v ≡ none → eqb v (2 ^ 64 - 1) ≡ true
+loaded_none v h = elim (cases_Bool (eqb v (2 ^ 64 - 1))) [ inl e ↦ e | inr f ↦ absurd (none_some v (sym h ∙ rw f)) ]
 
 pub loaded_stored : (r : Option ℕ) → Fits r → loaded (stored r) ≡ r
 loaded_stored none h = refl
 loaded_stored (some c) h = loaded_some c (λ e. omega arith)
 
 pub stored_loaded : (v : ℕ) → stored (loaded v) ≡ v
-stored_loaded v = elim (bool_cases (eqb v (2 ^ 64 - 1))) [ inl e ↦ rw e (sym (eqb-true v (2 ^ 64 - 1) e)) | inr e ↦ rw e ]
+stored_loaded v = elim (cases_Bool (eqb v (2 ^ 64 - 1))) [ inl e ↦ rw e (sym (eqb-true v (2 ^ 64 - 1) e)) | inr e ↦ rw e ]
 
 pub stored_lower : (a b : Option ℕ) → Fits a → Fits b → stored (lower a b) ≡ min (stored a) (stored b)
 stored_lower none none h k = refl
@@ -61,17 +61,10 @@ pub stored_taken : (a b : Option ℕ) (kind arg x : ℕ) → Fits a → Fits b �
 stored_taken none none kind arg x h k e c l = absurd (none_some c l)
 stored_taken none (some b) kind arg x h k e c l = rw (lt-ltb b (2 ^ 64 - 1) k)
 stored_taken (some a) none kind arg x h k e c l = rw (le-ltb (2 ^ 64 - 1) a (omega arith)) (e a refl)
-stored_taken (some a) (some b) kind arg x h k e c l = elim (bool_cases (leb a b)) [
+stored_taken (some a) (some b) kind arg x h k e c l = elim (cases_Bool (leb a b)) [
   | inl q ↦ rw (q, le-ltb b a (leb-true a b q)) (e a refl)
   | inr q ↦ rw (q, lt-ltb b a (leb-false a b q))
 ]
-
--- nothing is taken where there is nothing
-pub stored_none : (a b : Option ℕ) (kind x : ℕ) → (a ≡ none → kind ≡ 0) → lower a b ≡ none → cond (ltb (stored b) (stored a)) x kind ≡ 0
-stored_none none none kind x e l = e refl
-stored_none none (some b) kind x e l = absurd (none_some b (sym l))
-stored_none (some a) none kind x e l = absurd (none_some a (sym l))
-stored_none (some a) (some b) kind x e l = absurd (none_some (min a b) (sym l))
 
 pub fits_least : (f : ℕ → Option ℕ) (n : ℕ) → ((x : ℕ) → 1 ≤ x → x ≤ n → Fits (f x)) → Fits (least f n)
 fits_least f n h =

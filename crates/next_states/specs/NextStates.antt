@@ -1,5 +1,6 @@
 -- The next states of one k: what the table holds for them, and the least over them.
-use Rattle.std.specs.Prelude.{ℕ, ◌-◌, ◌^◌, ◌≤◌, ◌<◌, Bool, true, cond, ◌&&◌, List, [], ◌∷◌, ◌≢◌, ◌≡◌, ltb, eqb, length, get_or}
+use Rattle.std.specs.Prelude.{ℕ, ◌-◌, ◌^◌, ◌≤◌, ◌<◌, Bool, cond, List, [], ◌∷◌, ◌≢◌, ◌≡◌, ltb, eqb, get_or, Some, None, Option as Answer}
+use Rattle.std.specs.List.{list_all}
 use Rattle.std.proofs.Math.Option.{Option, none, some}
 use Rattle.units.specs.declared.Seconds.{Seconds}
 use Rattle.units.specs.Costs.{cost_in}
@@ -17,6 +18,16 @@ use Rattle.next_states.specs.declared.Least.{Least}
 abbrev pub loaded : ℕ → Option ℕ
 loaded v = cond (eqb v (2 ^ 64 - 1)) none (some v)
 
+-- a value as it is answered
+abbrev pub answer : Option ℕ → Answer ℕ
+answer none = None
+answer (some c) = Some c
+
+-- an answer as the table holds it
+abbrev pub entry_of : Answer ℕ → ℕ
+entry_of None = 2 ^ 64 - 1
+entry_of (Some c) = c
+
 -- the next state by way of kind x: what the table holds at 01's number of it, none where no job of x is left
 abbrev pub next_value : Problem → (table k : List ℕ) → ℕ → Option ℕ
 next_value P table k x = only (ltb 0 (at k x)) (loaded (get_or table (number P x (complete k x)) 0))
@@ -30,19 +41,21 @@ abbrev pub next_values : Problem → (table k : List ℕ) → List ℕ
 next_values P table k = per_kind (next_value P table k)
 
 -- no entry holds a value
-unfoldable pub none_of : List ℕ → Bool
-none_of [] = true
-none_of (v ∷ vs) = eqb v (2 ^ 64 - 1) && none_of vs
+abbrev pub none_of : List ℕ → Bool
+none_of next = list_all (λ v. eqb v (2 ^ 64 - 1)) next
 
 -- what kind x as the next comes to from row L, by the next states' entries: w × gap(L, x) and what comes after; none where x may not follow L
 abbrev pub candidate : (next gaps : List ℕ) (row w : ℕ) → ℕ → Option ℕ
 candidate next gaps row w x = plus_gap w (gap_between gaps row x) (loaded (at next x))
 
--- the least of f over five kinds as it is answered: its cost in the goal's unit, and the smallest kind that reaches it, 0 where there is none
-pub record IsLeast (goal : ℕ) (f : ℕ → Option ℕ) (r : Least) : Type 0 where
-  pub cost_is : r.cost ≡ cost_in goal (stored (least f 5))
-  pub kind_is : (c : ℕ) → least f 5 ≡ some c → r.kind ≡ arg_least f 5
-  pub no_kind : least f 5 ≡ none → r.kind ≡ 0
+-- a least as it is answered: its cost in the goal's unit, and the kind that reaches it
+abbrev pub least_answer : (goal kind : ℕ) → Option ℕ → Answer Least
+least_answer goal x none = None
+least_answer goal x (some c) = Some (record { cost = cost_in goal c; kind = x })
+
+-- the least over the next states from row L, and the smallest kind that reaches it
+abbrev pub least_next : (goal : ℕ) (next gaps : List ℕ) (row w : ℕ) → Answer Least
+least_next goal next gaps row w = least_answer goal (arg_least (candidate next gaps row w) 5) (least (candidate next gaps row w) 5)
 
 -- what counting w × a gap and a value together may rely on: two factors of 16 bits, and a sum that 64 bits hold
 pub record Counted (value : Option ℕ) (gap : Gap) (w : ℕ) : Type 0 where
@@ -50,11 +63,9 @@ pub record Counted (value : Option ℕ) (gap : Gap) (w : ℕ) : Type 0 where
   pub short : (s : Seconds) → value ≢ none → gap ≡ Lasting s → s.0 < 2 ^ 16
   pub small : (c : ℕ) → plus_gap w gap value ≡ some c → c < 2 ^ 64 - 1
 
--- what the least may rely on: arrays long enough, and costs that 64 bits hold
+-- what the least may rely on: a row that there is, and costs that 64 bits hold
 pub record Ready (next gaps : List ℕ) (row w : ℕ) : Type 0 where
   pub row_in : row ≤ 5
-  pub next_long : length next ≡ 5
-  pub gaps_long : length gaps ≡ 30
   pub counted : (x : ℕ) → 1 ≤ x → x ≤ 5 → Counted (loaded (at next x)) (gap_between gaps row x) w
 
 -- every next state that has a value may follow row L

@@ -1,28 +1,8 @@
--- Entry numbers that run along with k: the part that k makes, and what is taken off and added for a next state.
-use Rattle.std.specs.Prelude.{ℕ, ◌+◌, ◌-◌, ◌*◌, ◌^◌, ◌≤◌, ◌<◌, List, ◌≡◌, length, get_or}
-use Rattle.sequencing.specs.Lists.{at}
-use Rattle.sequencing.specs.Problem.{Problem}
-use Rattle.sequencing.specs.States.{all_left}
-use Rattle.sequencing.specs.Entries.{stride, block}
-use Rattle.jobs_left.specs.Steps.{LeftAt}
-
--- the arrays that entry numbers are made of: 02's weights, what one job of each kind counts for, and 02's blocks, (x − 1) × P
-pub record Numbers (P : Problem) (strides blocks : List ℕ) : Type 0 where
-  pub few : P.N ≤ 5
-  pub strides_long : length strides ≡ 5
-  pub blocks_long : length blocks ≡ 5
-  pub stride_is : (x : ℕ) → 1 ≤ x → x ≤ P.N → at strides x ≡ stride (all_left P) x
-  pub block_is : (x : ℕ) → 1 ≤ x → x ≤ P.N → at blocks x ≡ (x - 1) * block P
+-- Entry numbers that run along with k: what is taken off and added for a next state.
+use Rattle.std.specs.Prelude.{ℕ, ◌+◌, ◌^◌, ◌≤◌, ◌<◌, List, get_or}
 
 -- what a step to kind x (from 0) may rely on; it is asked of the kinds before x too, so that only the promise tells them apart
 pub record Steppable (strides blocks : List ℕ) (index x : ℕ) : Type 0 where
-  pub strides_long : length strides ≡ 5
-  pub blocks_long : length blocks ≡ 5
   pub x_in : x < 5
   pub lower : (y : ℕ) → y ≤ x → get_or strides y 0 ≤ index
   pub fits : (y : ℕ) → y ≤ x → index + get_or blocks y 0 < 2 ^ 64
-
--- 02's running number: i is the part of the entry number that k makes, while an array holds k
-pub record Running (P : Problem) (left strides blocks : List ℕ) (i : ℕ) : Type 0 where
-  pub left_at : LeftAt P left i
-  pub numbers : Numbers P strides blocks

@@ -1,104 +1,93 @@
 // The next states of one k: where they stand in the table, what it holds for them, and the least over them from any row.
 #![tactic(auto)]
 
-ghost use Rattle.std.specs.Prelude.{◌≡◌, true, cond, List, ◌≢◌, ℕ, suc, min, ◌+◌, ◌*◌, ◌^◌, ◌≤◌, ◌<◌, ltb, length, get_or};
+ghost use Rattle.std.specs.Prelude.{◌≡◌, true, false, cond, ◌≢◌, ℕ, suc, min, ◌+◌, ◌*◌, ◌^◌, ◌≤◌, ◌<◌, eqb, ltb, length, get_or};
 ghost use Rattle.std.proofs.Math.Option.{none};
 ghost use Rattle.units.specs.Costs.{cost_in, number_of};
 ghost use Rattle.gaps.specs.declared.Gap.TheVariants.{Never};
-ghost use Rattle.gaps.specs.Gaps.{gap_index, gap_between, has_never};
+ghost use Rattle.gaps.specs.Gaps.{gap_index, gap_between};
 ghost use Rattle.sequencing.specs.Lists.{at};
-ghost use Rattle.sequencing.specs.Problem.{Problem};
 ghost use Rattle.sequencing.specs.States.{complete};
 ghost use Rattle.sequencing.specs.Least.{plus_gap};
 ghost use Rattle.sequencing.specs.Entries.{stored, number, k_at, block, entries};
-ghost use Rattle.next_states.specs.Numbers.{Numbers, Steppable, Running};
-ghost use Rattle.next_states.specs.NextStates.{loaded, next_value, next_values, none_of, candidate, Counted, IsLeast, Ready, Open};
+ghost use Rattle.problem.specs.OfQueue.{problem};
+ghost use Rattle.jobs_left.specs.Steps.{LeftAt};
+ghost use Rattle.next_states.specs.Numbers.{Steppable};
+ghost use Rattle.next_states.specs.NextStates.{loaded, answer, next_value, next_values, none_of, Counted, Ready, Open, least_next};
 
-use gaps::Gap;
+use gaps::{Gap, GapTable};
+use jobs_left::{JobsLeft, StepWeight};
+use layout::Setup;
 use units::{Cost, PupilSeconds, Seconds};
 
 // An entry that holds no value.
 pub const NONE: u64 = 18446744073709551615;
 
-// The least cost over the kinds, NONE of its unit where there is none, and the smallest kind that reaches it.
+// The least cost over the kinds, and the smallest kind that reaches it.
 #[derive(Clone, Copy)]
 pub struct Least {
     pub cost: Cost,
     pub kind: usize,
 }
 
-// One step's cost and what comes after it, in the goal's own unit.
-fn step_cost(goal: u32, weight: u64, gap: Seconds, value: u64) -> Cost
-    requires { (goal ≡ 1 → weight ≡ 1) × ((weight < 2 ^ 16) × ((gap.0 < 2 ^ 16) × (weight * gap.0 + value < 2 ^ 64))) }
-    ensures { result ≡ cost_in goal (weight * gap.0 + value) }
+// The value that an entry holds.
+pub fn value_of(entry: u64) -> Option<u64>
+    ensures { result ≡ answer (loaded entry) }
 {
-    if goal == 1 {
-        Cost::InSeconds(gap.plus(Seconds(value)))
+    if entry == NONE {
+        return None;
+    }
+    Some(entry)
+}
+
+// One step's cost and what comes after it, in the goal's own unit.
+fn step_cost(weight: StepWeight, gap: Seconds, value: u64) -> Cost
+    requires { (weight.weight < 2 ^ 16) × ((gap.0 < 2 ^ 16) × (weight.weight * gap.0 + value < 2 ^ 64)) }
+    ensures { result ≡ cost_in weight.goal (weight.weight * gap.0 + value) }
+{
+    if weight.goal == 1 {
+        Cost::InSeconds(gap + Seconds(value))
     } else {
-        let step = gap.weighted(weight);
-        Cost::InPupilSeconds(step.plus(PupilSeconds(value)))
+        let step = gap.weighted(weight.weight);
+        Cost::InPupilSeconds(step + PupilSeconds(value))
     }
 }
 
-// The better of the least so far and one kind more, the earlier where they are equal; without a value of its next state a kind changes nothing, and its gap
-// is not looked up.
-fn lower(
+// The better of the least so far (NONE of its unit where there is none) and one kind more, the earlier where they are equal. Without a value of its next
+// state a kind changes nothing, and its gap is not looked up; nor does a kind that may not follow, which is asked only where anything is forbidden.
+fn lower<const FORBIDS: bool>(
     best: Least,
     value: u64,
     gaps: &[u32; 30],
     row: usize,
-    goal: u32,
-    weight: u64,
+    weight: StepWeight,
     kind: usize,
 ) -> Least
-    requires kind_in_bounds { (gap_index row kind < length gaps.now) × (loaded value ≢ none → gap_between gaps.now row kind ≢ Never) }
-    requires weight_value { (goal ≡ 1 → weight ≡ 1) × (Counted (loaded value) (gap_between gaps.now row kind) weight) }
-    requires cost_value { (best.cost ≡ cost_in goal (number_of best.cost)) × (number_of best.cost < 2 ^ 64) }
-    ensures cost_value_2 { result.cost ≡ cost_in goal (min (number_of best.cost) (stored (plus_gap weight (gap_between gaps.now row kind) (loaded value)))) }
-    ensures kind_value { result.kind ≡ cond (ltb (stored (plus_gap weight (gap_between gaps.now row kind) (loaded value))) (number_of best.cost)) kind best.kind }
+    requires kind_in_bounds { (gap_index row kind < length gaps.now) × (FORBIDS ≡ false → loaded value ≢ none → gap_between gaps.now row kind ≢ Never) }
+    requires counted { Counted (loaded value) (gap_between gaps.now row kind) weight.weight }
+    requires cost_value { (best.cost ≡ cost_in weight.goal (number_of best.cost)) × (number_of best.cost < 2 ^ 64) }
+    ensures cost_value_2 { result.cost ≡ cost_in weight.goal (min (number_of best.cost) (stored (plus_gap weight.weight (gap_between gaps.now row kind) (loaded value)))) }
+    ensures kind_value { result.kind ≡ cond (ltb (stored (plus_gap weight.weight (gap_between gaps.now row kind) (loaded value))) (number_of best.cost)) kind best.kind }
 {
     if value == NONE {
         return best;
     }
+    if FORBIDS {
+        if let Gap::Never = gaps::gap_after(gaps, row, kind) {
+            return best;
+        }
+    }
     let gap = gaps::seconds_after(gaps, row, kind);
-    let cost = step_cost(goal, weight, gap, value);
-    let so_far = best.cost;
-    if cost.less(so_far) {
+    let cost = step_cost(weight, gap, value);
+    if cost.less(best.cost) {
         Least { cost, kind }
     } else {
         best
     }
 }
 
-// The same where the kind may be forbidden after row: then it changes nothing either.
-fn lower_open(
-    best: Least,
-    value: u64,
-    gaps: &[u32; 30],
-    row: usize,
-    goal: u32,
-    weight: u64,
-    kind: usize,
-) -> Least
-    requires kind_in_bounds { gap_index row kind < length gaps.now }
-    requires weight_value { (goal ≡ 1 → weight ≡ 1) × (Counted (loaded value) (gap_between gaps.now row kind) weight) }
-    requires cost_value { (best.cost ≡ cost_in goal (number_of best.cost)) × (number_of best.cost < 2 ^ 64) }
-    ensures cost_value_2 { result.cost ≡ cost_in goal (min (number_of best.cost) (stored (plus_gap weight (gap_between gaps.now row kind) (loaded value)))) }
-    ensures kind_value { result.kind ≡ cond (ltb (stored (plus_gap weight (gap_between gaps.now row kind) (loaded value))) (number_of best.cost)) kind best.kind }
-{
-    if value == NONE {
-        return best;
-    }
-    let gap = gaps::gap_after(gaps, row, kind);
-    match gap {
-        Gap::Never => best,
-        Gap::Lasting(_) => lower(best, value, gaps, row, goal, weight, kind),
-    }
-}
-
 // Whether no kind from x on (from 0) has a value, asked at 3 alone, and in one test: with three kinds or fewer a look then ends there.
-fn none_past(next: &[u64], x: usize) -> bool
-    requires { length next.now ≡ 5 }
+fn none_past(next: &[u64; 5], x: usize) -> bool
     ensures { result ≡ true → (y : ℕ) → x < y → y ≤ 5 → loaded (at next.now y) ≡ none }
 {
     if x != 3 {
@@ -107,132 +96,101 @@ fn none_past(next: &[u64], x: usize) -> bool
     next[3] & next[4] == NONE
 }
 
-// The least over the next states after row (a kind, or 0 for the cold cutter), all of which may follow it. Five places are looked at, NONE where there is
-// no kind: a loop of a fixed length is unrolled.
-pub fn least_of(next: &[u64], gaps: &[u32; 30], row: usize, goal: u32, weight: u64) -> Least
-    requires { Ready next.now gaps.now row weight × (Open next.now gaps.now row × (goal ≡ 1 → weight ≡ 1)) }
-    ensures { IsLeast goal (candidate next.now gaps.now row weight) result }
+// The least over the next states after row (a kind, or 0 for the cold cutter). Five places are looked at, NONE where there is no kind: a loop of a fixed
+// length is unrolled.
+fn least_by<const FORBIDS: bool>(
+    next: &[u64; 5],
+    gaps: &[u32; 30],
+    row: usize,
+    weight: StepWeight,
+) -> Option<Least>
+    requires { Ready next.now gaps.now row weight.weight × (FORBIDS ≡ false → Open next.now gaps.now row) }
+    ensures { result ≡ least_next weight.goal next.now gaps.now row weight.weight }
 {
     let mut best = Least {
-        cost: units::cost_in(goal, NONE),
+        cost: units::cost_in(weight.goal, NONE),
         kind: 0,
     };
-    let mut x: usize = 0;
-    while x < 5 {
-        if none_past(next, x) {
-            return best;
+    for x in 0..5 {
+        if !FORBIDS && none_past(next, x) {
+            break;
         }
-        best = lower(best, next[x], gaps, row, goal, weight, x + 1);
-        x = x + 1;
+        best = lower::<FORBIDS>(best, next[x], gaps, row, weight, x + 1);
     }
-    best
+    (best.cost.number() != NONE).then_some(best)
 }
 
-// The least over the next states that may follow row: the others are passed over.
-pub fn least_open(next: &[u64], gaps: &[u32; 30], row: usize, goal: u32, weight: u64) -> Least
-    requires { Ready next.now gaps.now row weight × (goal ≡ 1 → weight ≡ 1) }
-    ensures { IsLeast goal (candidate next.now gaps.now row weight) result }
+// The least over the next states that may follow row (a kind, or 0 for the cold cutter). Most queues forbid nothing, and then nothing is compared with never.
+// Within the filling loop: a call for each state made planning half as slow again.
+#[inline(always)]
+pub fn least_next(next: &[u64; 5], gaps: &GapTable, row: usize, weight: StepWeight) -> Option<Least>
+    requires { Ready next.now gaps.now.numbers row weight.weight }
+    ensures { result ≡ least_next weight.goal next.now gaps.now.numbers row weight.weight }
 {
-    let mut best = Least {
-        cost: units::cost_in(goal, NONE),
-        kind: 0,
-    };
-    let mut x: usize = 0;
-    while x < 5 {
-        best = lower_open(best, next[x], gaps, row, goal, weight, x + 1);
-        x = x + 1;
+    if gaps.forbids {
+        return least_by::<true>(next, &gaps.numbers, row, weight);
     }
-    best
+    least_by::<false>(next, &gaps.numbers, row, weight)
 }
 
 // Whether no next state has a value, as where nothing is left.
-pub fn none_next(next: &[u64]) -> bool
-    requires { length next.now ≡ 5 }
+pub fn none_next(next: &[u64; 5]) -> bool
     ensures { result ≡ none_of next.now }
 {
-    let mut x: usize = 0;
-    while x < 5 {
-        if next[x] != NONE {
-            return false;
-        }
-        x = x + 1;
-    }
-    true
+    next.iter().all(|entry| *entry == NONE)
 }
 
 // 01's entry of (L; k), L from 0: the running number, and L's block added.
-pub fn state_entry(blocks: &[usize; 5], index: usize, kind: usize) -> usize
-    requires { (kind < 5) × (index + get_or blocks.now kind 0 < 2 ^ 64) }
-    ensures { (P : Problem) (strides : List ℕ) → Numbers P strides blocks.now → index < block P → kind < P.N → result ≡ number P (suc kind) (k_at P index) }
+pub fn state_entry(setup: &Setup, index: usize, kind: usize) -> usize
+    requires { (kind < 5) × (index + get_or setup.now.layout.blocks kind 0 < 2 ^ 64) }
+    ensures { index < block (problem setup.now.queue) → kind < setup.now.queue.kinds → result ≡ number (problem setup.now.queue) (suc kind) (k_at (problem setup.now.queue) index) }
 {
-    index + blocks[kind]
+    index + setup.layout.blocks[kind]
 }
 
 // 01's entry of the next state by way of kind x (from 0): x's weight taken off the running number, and x's block added.
-fn next_entry(strides: &[usize; 5], blocks: &[usize; 5], index: usize, x: usize) -> usize
-    requires { Steppable strides.now blocks.now index x }
-    ensures { (P : Problem) → Numbers P strides.now blocks.now → index < block P → 0 < at (k_at P index) (suc x) → result ≡ number P (suc x) (complete (k_at P index) (suc x)) }
+fn next_entry(setup: &Setup, index: usize, x: usize) -> usize
+    requires { Steppable setup.now.layout.strides setup.now.layout.blocks index x }
+    ensures { index < block (problem setup.now.queue) → 0 < at (k_at (problem setup.now.queue) index) (suc x) → result ≡ number (problem setup.now.queue) (suc x) (complete (k_at (problem setup.now.queue) index) (suc x)) }
 {
-    index - strides[x] + blocks[x]
+    let layout = &setup.layout;
+    index - layout.strides[x] + layout.blocks[x]
 }
 
 // What the table holds for that state, NONE where no job of x is left.
-fn next_value(
-    table: &[u64],
-    left: u32,
-    strides: &[usize; 5],
-    blocks: &[usize; 5],
-    index: usize,
-    x: usize,
-) -> u64
-    requires { (P : Problem) × (Numbers P strides.now blocks.now × ((index < block P) × ((entries P ≤ length table.now) × (left ≡ at (k_at P index) (suc x))))) }
-    ensures { (P : Problem) → Numbers P strides.now blocks.now → index < block P → left ≡ at (k_at P index) (suc x) → result ≡ stored (next_value P table.now (k_at P index) (suc x)) }
+fn next_value(setup: &Setup, table: &[u64], k: &JobsLeft, x: usize) -> u64
+    requires { (x < 5) × (LeftAt (problem setup.now.queue) k.now.left k.now.index × (entries (problem setup.now.queue) ≤ length table.now)) }
+    ensures { result ≡ stored (next_value (problem setup.now.queue) table.now (k_at (problem setup.now.queue) k.now.index) (suc x)) }
 {
-    if left == 0 {
+    if k.left[x] == 0 {
         return NONE;
     }
-    table[next_entry(strides, blocks, index, x)]
+    table[next_entry(setup, k.index, x)]
 }
 
 // The next states' entries, kind by kind, read once for all states with one k.
-pub fn load_next(
-    table: &[u64],
-    left: &[u32; 5],
-    strides: &[usize; 5],
-    blocks: &[usize; 5],
-    index: usize,
-) -> [u64; 5]
-    requires { (P : Problem) × (Running P left.now strides.now blocks.now index × (entries P ≤ length table.now)) }
-    ensures { (P : Problem) → Running P left.now strides.now blocks.now index → result ≡ next_values P table.now (k_at P index) }
+pub fn load_next(setup: &Setup, table: &[u64], k: &JobsLeft) -> [u64; 5]
+    requires { LeftAt (problem setup.now.queue) k.now.left k.now.index × (entries (problem setup.now.queue) ≤ length table.now) }
+    ensures { result ≡ next_values (problem setup.now.queue) table.now (k_at (problem setup.now.queue) k.now.index) }
 {
     let mut next = [NONE; 5];
-    let mut x: usize = 0;
-    while x < 5 {
-        next[x] = next_value(table, left[x], strides, blocks, index, x);
-        x = x + 1;
+    for x in 0..5 {
+        next[x] = next_value(setup, table, k, x);
     }
     next
 }
 
-// The least over the next states after row, by the table, told whether any gap is never: most queues have none, and nothing is compared with it.
-pub fn best_next(
-    table: &[u64],
-    left: &[u32; 5],
-    strides: &[usize; 5],
-    blocks: &[usize; 5],
-    gaps: &[u32; 30],
-    forbids: bool,
-    index: usize,
-    row: usize,
-    goal: u32,
-    weight: u64,
-) -> Least
-    requires { (P : Problem) × (Running P left.now strides.now blocks.now index × ((entries P ≤ length table.now) × (Ready (next_values P table.now (k_at P index)) gaps.now row weight × ((forbids ≡ has_never gaps.now) × (goal ≡ 1 → weight ≡ 1))))) }
-    ensures { (P : Problem) → Running P left.now strides.now blocks.now index → IsLeast goal (candidate (next_values P table.now (k_at P index)) gaps.now row weight) result }
+// The least over the next states after row, by the table.
+pub fn best_next(setup: &Setup, table: &[u64], k: &JobsLeft, row: usize) -> Option<Least>
+    requires left_at { LeftAt (problem setup.now.queue) k.now.left k.now.index × (entries (problem setup.now.queue) ≤ length table.now) }
+    requires ready { Ready (next_values (problem setup.now.queue) table.now (k_at (problem setup.now.queue) k.now.index)) setup.now.queue.gaps row (cond (eqb setup.now.queue.goal 1) 1 k.now.weight) }
+    ensures { result ≡ least_next setup.now.queue.goal (next_values (problem setup.now.queue) table.now (k_at (problem setup.now.queue) k.now.index)) setup.now.queue.gaps row (cond (eqb setup.now.queue.goal 1) 1 k.now.weight) }
 {
-    let next = load_next(table, left, strides, blocks, index);
-    if forbids {
-        return least_open(&next, gaps, row, goal, weight);
-    }
-    least_of(&next, gaps, row, goal, weight)
+    let next = load_next(setup, table, k);
+    least_next(
+        &next,
+        &setup.layout.gaps,
+        row,
+        k.step_weight(setup.queue.goal),
+    )
 }

@@ -1,6 +1,6 @@
 -- Reading a number group by group: what a turn of the loop adds, and the loop's invariant.
 -- Assumes nothing.
-use Prim.Native.Nat.{ℕ, zero, suc, ◌+◌, ◌-◌, ◌*◌, ◌%◌, ◌^◌, ◌<◌, ◌≤◌}
+use Prim.Native.Nat.{ℕ, zero, suc, ◌+◌, ◌-◌, ◌*◌, ◌^◌, ◌<◌, ◌≤◌}
 use mathlib.Core.Path.{◌≡◌, refl, sym, ap, ◌∙◌}
 use mathlib.Core.Bool.{Bool, true, false, false≢true}
 use mathlib.Core.Logic.{inl, inr}
@@ -14,10 +14,8 @@ use lib.Seq.{drop-cons}
 use lib.Pow.{pow-add}
 use borrow.Author.Tests.{lt-ltb, le-ltb, eq-eqb, ne_eqb, eqb-true}
 use Rattle.refusal.specs.declared.Reason.TheVariants.{Ends, Groups}
-use Rattle.number.specs.declared.Read.TheVariants.{Value, Refused}
 use Rattle.number.specs.Readers.{Found, found, refused}
 use Rattle.number.specs.Numbers.{above, last, groups_at, number}
-use Rattle.number.specs.Answers.{as_read}
 use Rattle.number.proofs.Bits.{placed_lt}
 use Rattle.number.proofs.Steps.{bool_cases}
 
@@ -73,38 +71,36 @@ reading_none bytes at groups =
     record { from = omega arith; shifted = omega arith; groups_left = omega arith; fits = omega arith; means = sym (placed_none _) }
 
 module _ (bytes : List ℕ) (at groups value shift i left : ℕ) (w : Reading bytes at groups value shift i left) where
-  pub reading_out : left ≡ 0 → Refused Groups ≡ as_read (number groups bytes at)
+  pub reading_out : left ≡ 0 → number groups bytes at ≡ refused Groups
   unfolding groups_at
-  reading_out h = sym (ap as_read w.means ∙ rw h)
+  reading_out h = w.means ∙ rw h
 
   module _ (h : 0 < left) where
-    pub reading_ends : length bytes ≤ i → Refused Ends ≡ as_read (number groups bytes at)
-    reading_ends e = sym (ap as_read w.means ∙ rw (at_end (eqb shift 0) i bytes left h e))
+    pub reading_ends : length bytes ≤ i → number groups bytes at ≡ refused Ends
+    reading_ends e = w.means ∙ rw (at_end (eqb shift 0) i bytes left h e)
 
     module _ (l : i < length bytes) where
-      pub reading_more : 128 ≤ get_or bytes i 0 → get_or bytes i 0 < 256
-          → Reading bytes at groups (value + 2 ^ shift * (get_or bytes i 0 % 128)) (shift + 7) (i + 1) (left - 1)
+      pub reading_more : 128 ≤ get_or bytes i 0 → get_or bytes i 0 - 128 < 128
+          → Reading bytes at groups (value + 2 ^ shift * (get_or bytes i 0 - 128)) (shift + 7) (i + 1) (left - 1)
       reading_more b u =
-          let d : get_or bytes i 0 - 128 ≡ get_or bytes i 0 % 128 = omega arith in
           record {
             from = omega (arith, w);
             shifted = omega (arith, w);
             groups_left = omega (arith, w);
-            fits = placed_lt value (get_or bytes i 0 % 128) shift w.fits (omega arith);
-            means = rw (ne_eqb (shift + 7) 0 (omega arith), pow-add 2 shift 7, ← d)
+            fits = placed_lt value (get_or bytes i 0 - 128) shift w.fits u;
+            means = rw (ne_eqb (shift + 7) 0 (omega arith), pow-add 2 shift 7)
                 (w.means
                 ∙ ap (placed (2 ^ shift) value) (at_more (eqb shift 0) i bytes left h l b)
                 ∙ placed_above (2 ^ shift) value (get_or bytes i 0 - 128) (groups_at false (left - 1) (i + 1) (drop (i + 1) bytes)));
           }
 
       -- a last group of 00 that is not the first
-      pub reading_zero : get_or bytes i 0 ≡ 0 → 0 < shift → Refused Groups ≡ as_read (number groups bytes at)
+      pub reading_zero : get_or bytes i 0 ≡ 0 → 0 < shift → number groups bytes at ≡ refused Groups
       reading_zero z p =
-          sym (ap as_read w.means ∙ rw (at_last (eqb shift 0) i bytes left h l (omega arith), ne_eqb shift 0 (omega arith), eq-eqb _ _ z))
+          w.means ∙ rw (at_last (eqb shift 0) i bytes left h l (omega arith), ne_eqb shift 0 (omega arith), eq-eqb _ _ z)
 
       -- a last group that is not 00, or is the first
       pub reading_last : get_or bytes i 0 < 128 → (get_or bytes i 0 ≡ 0 → shift ≡ 0)
-          → Value (value + 2 ^ shift * (get_or bytes i 0 % 128)) (i + 1) ≡ as_read (number groups bytes at)
+          → number groups bytes at ≡ found (value + 2 ^ shift * get_or bytes i 0) (i + 1)
       reading_last b z =
-          let e : get_or bytes i 0 % 128 ≡ get_or bytes i 0 = omega arith in
-          sym (ap as_read w.means ∙ rw (at_last (eqb shift 0) i bytes left h l b, last_any (eqb shift 0) (get_or bytes i 0) (i + 1) (λ q. eq-eqb shift 0 (z q)), e))
+          w.means ∙ rw (at_last (eqb shift 0) i bytes left h l b, last_any (eqb shift 0) (get_or bytes i 0) (i + 1) (λ q. eq-eqb shift 0 (z q)))

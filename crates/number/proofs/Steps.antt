@@ -8,9 +8,7 @@ use lib.Dec.{ltb}
 use borrow.Author.Tests.{ltb-true, ltb-false}
 use native.Mathlib.Omega.{arith}
 use Rattle.refusal.specs.declared.Reason.{Reason}
-use Rattle.number.specs.declared.Read.TheVariants.{Value, Refused}
 use Rattle.number.specs.Readers.{Found, found, refused, and_then}
-use Rattle.number.specs.Answers.{as_read}
 
 pub bool_cases : (b : Bool) → (b ≡ true) ⊎ (b ≡ false)
 bool_cases true = inl refl
@@ -41,12 +39,3 @@ went_on (refused r) next b m e = not_found r b m e
 pub passed : {A : Type 0} (ok : Bool) (f : Found A) (r : Reason) (a : A) (n : ℕ) → cond ok f (refused r) ≡ found a n → (ok ≡ true) × (f ≡ found a n)
 passed true f r a n e = (refl, e)
 passed false f r a n e = not_found r a n e
-
--- what the code's answer says of the definition's
-pub as_value : (f : Found ℕ) (v n : ℕ) → as_read f ≡ Value v n → f ≡ found v n
-as_value (found w m) v n e = cc
-as_value (refused r) v n e = let z : ◌≡◌ {A = ℕ} 0 1 = cc in absurd (omega arith)
-
-pub as_refused : (f : Found ℕ) (r : Reason) → as_read f ≡ Refused r → f ≡ refused r
-as_refused (found w m) r e = let z : ◌≡◌ {A = ℕ} 0 1 = cc in absurd (omega arith)
-as_refused (refused q) r e = cc

@@ -1,4 +1,5 @@
 pub mod Readers
 pub mod Numbers
-pub mod Answers
+pub mod Inputs
+pub mod Outputs
 pub mod Examples

@@ -32,3 +32,7 @@ give a s at = found a at
 unfoldable pub times : {A : Type 0} → ℕ → Reader A → Reader (List A)
 times zero one s at = found [] at
 times (suc n) one s at = and_then (one s at) (λ a i. and_then (times n one s i) (λ more j. found (a ∷ more) j))
+
+-- what is found, without its value
+abbrev pub behind : {A : Type 0} → Found A → Found (Unit {0})
+behind f = and_then f (λ _ n. found tt n)

@@ -1,26 +1,38 @@
 // Numbers in groups of seven bits, lowest group first, one byte each; bit 7 is set in all but the last byte (LEB128, canonical).
 #![tactic(auto)]
 
-ghost use Rattle.std.specs.Prelude.{◌≡◌, ◌+◌, ◌*◌, ◌%◌, ◌^◌, ◌≤◌, ◌<◌, length};
-ghost use Rattle.std.proofs.lemmas.List.Edits.{sets};
+ghost use Rattle.std.specs.Prelude.{◌≡◌, cond, leb, ◌+◌, ◌-◌, ◌*◌, ◌%◌, ◌^◌, ◌≤◌, ◌<◌};
 ghost use Rattle.number.specs.Numbers.{number, encode};
-ghost use Rattle.number.specs.Answers.{as_read};
 
 use refusal::Reason;
 
-// What reading a number finds.
+// A message, and the position of the byte that is read next. Each reader moves it behind what it read; behind a refusal nothing more is read.
 #[derive(Clone, Copy)]
-pub enum Read {
-    // The number, and the position behind its last byte.
-    Value { value: u64, next: usize },
-    Refused(Reason),
+pub struct Input<'a> {
+    pub bytes: &'a [u8],
+    pub at: usize,
+}
+
+// A lent buffer, and the position of the byte that is written next. Each writer moves it behind what it wrote.
+#[derive(Drop)]
+pub struct Output<'a> {
+    pub buffer: &'a mut [u8],
+    pub at: usize,
+}
+
+// Whether a byte has bit 7 set: more groups follow.
+fn has_more(b: u8) -> bool
+    ensures { result ≡ leb 128 b }
+{
+    b & 128 != 0
 }
 
 // The seven bits of a group.
 fn group(b: u8) -> u64
-    ensures { result ≡ b % 128 }
+    ensures value { result ≡ cond (leb 128 b) (b - 128) b }
+    ensures small { result < 128 }
 {
-    (b & 127) as u64
+    u64::from(b & 127)
 }
 
 // `value` with a group put above its `shift` bits.
@@ -38,49 +50,50 @@ fn byte_more(v: u64) -> u8
     ((v & 127) | 128) as u8
 }
 
-// The number of at most `groups` groups that starts at `at`. Nine groups are the most that 64 bits hold whole.
-pub fn read_number(bytes: &[u8], at: usize, groups: u32) -> Read
-    requires { groups ≤ 9 }
-    ensures { result ≡ as_read (number groups bytes.now at) }
-{
-    let mut value: u64 = 0;
-    let mut shift: u32 = 0;
-    let mut i = at;
-    let mut left = groups;
-    while 0 < left {
-        if bytes.len() <= i {
-            return Read::Refused(Reason::Ends);
-        }
-        let b = bytes[i];
-        value = with_group(value, group(b), shift);
-        i = i + 1;
-        if b & 128 == 0 {
-            if b == 0 {
-                if 0 < shift {
-                    return Read::Refused(Reason::Groups);
-                }
+impl<'a> Input<'a> {
+    ghost use Rattle.number.specs.Inputs.{Reads};
+
+    // The number of at most `groups` groups that comes next. Nine groups are the most that 64 bits hold whole.
+    pub fn number(&mut self, groups: u32) -> Result<u64, Reason>
+        requires { groups ≤ 9 }
+        ensures { Reads (number groups) self.old self.new result }
+    {
+        let mut value: u64 = 0;
+        let mut shift: u32 = 0;
+        for _ in 0..groups {
+            if self.bytes.len() <= self.at {
+                return Err(Reason::Ends);
             }
-            return Read::Value { value, next: i };
+            let b = self.bytes[self.at];
+            value = with_group(value, group(b), shift);
+            self.at += 1;
+            if !has_more(b) {
+                if b == 0 && 0 < shift {
+                    return Err(Reason::Groups);
+                }
+                return Ok(value);
+            }
+            shift += 7;
         }
-        shift = shift + 7;
-        left = left - 1;
+        Err(Reason::Groups)
     }
-    Read::Refused(Reason::Groups)
 }
 
-// Writes `value` from `at`; returns the position behind its last byte.
-pub fn write_number(buffer: &mut [u8], at: usize, value: u64) -> usize
-    requires { at + length (encode value) ≤ length buffer.old }
-    ensures value { result ≡ at + length (encode value) }
-    ensures buffer_after { buffer.new ≡ sets buffer.old at (encode value) }
-{
-    let mut v = value;
-    let mut i = at;
-    while 127 < v {
-        buffer[i] = byte_more(v);
-        v = v >> 7;
-        i = i + 1;
+impl<'a> Output<'a> {
+    ghost use Rattle.number.specs.Outputs.{HasRoom, Writes};
+
+    // Writes a number.
+    pub fn number(&mut self, value: u64)
+        requires { HasRoom (encode value) self.old }
+        ensures { Writes (encode value) self.old self.new }
+    {
+        let mut rest = value;
+        while 127 < rest {
+            self.buffer[self.at] = byte_more(rest);
+            self.at += 1;
+            rest >>= 7;
+        }
+        self.buffer[self.at] = rest as u8;
+        self.at += 1;
     }
-    buffer[i] = v as u8;
-    i + 1
 }

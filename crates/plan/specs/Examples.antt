@@ -1,10 +1,8 @@
 -- The plans of 01's cases A and B, read and written; messages for each of the plan reader's refusals; records for the writer's.
-use Rattle.std.specs.Prelude.{ℕ, ◌*◌, ◌^◌, ◌≡◌, replicate}
+use Rattle.std.specs.Prelude.{ℕ, ◌*◌, ◌^◌, ◌≡◌, replicate, Ok, Err}
 use mathlib.Core.List.{List, [], ◌∷◌, ◌++◌}
 use Rattle.refusal.specs.declared.Reason.TheVariants.{Opening, Ends, Groups, Edition, Goal, Jobs, Job, LeftOver, Buffer}
-use Rattle.refusal.specs.declared.Verdict.TheVariants.{Accepted, Refused}
-use Rattle.refusal.specs.declared.Written.TheVariants.{Bytes, Refused as NotWritten}
-use Rattle.refusal.specs.Answers.{written_number}
+use Rattle.refusal.specs.Answers.{written_number, Accepted}
 use Rattle.number.specs.Readers.{refused}
 use Rattle.plan.specs.declared.Plan.{Plan}
 use Rattle.plan.specs.Reading.{plan_of, as_reading, read_plan}
@@ -54,14 +52,14 @@ Examples =
     -- 14: no jobs, and a byte
     × (read_plan (0x51 ∷ 0x50 ∷ 0x01 ∷ 0x01 ∷ 0x46 ∷ 0x07 ∷ 0x00 ∷ 0x00 ∷ []) ≡ as_reading (refused LeftOver))
     -- writing: 3 before 12, 15 last
-    × (judge (plan_of 1 (2 ^ 42) 7 61 []) ≡ Refused Groups)
-    × (judge (plan_of 1 70 (2 ^ 42) 61 []) ≡ Refused Groups)
-    × (judge (plan_of 1 70 7 61 []) ≡ Refused Jobs)
-    × (judge (plan_of 3 (2 ^ 42) 7 61 []) ≡ Refused Goal)
-    × (judge (plan_of 1 70 7 2 (1 ∷ 3 ∷ [])) ≡ Refused Job)
-    × (write_plan plan_a 77 ≡ Bytes 10)
-    × (write_plan plan_a 76 ≡ NotWritten Buffer)
-    × (write_plan (plan_of 1 70 7 2 (1 ∷ 1 ∷ [])) 76 ≡ NotWritten Job)
+    × (judge (plan_of 1 (2 ^ 42) 7 61 []) ≡ Err Groups)
+    × (judge (plan_of 1 70 (2 ^ 42) 61 []) ≡ Err Groups)
+    × (judge (plan_of 1 70 7 61 []) ≡ Err Jobs)
+    × (judge (plan_of 3 (2 ^ 42) 7 61 []) ≡ Err Goal)
+    × (judge (plan_of 1 70 7 2 (1 ∷ 3 ∷ [])) ≡ Err Job)
+    × (write_plan plan_a 77 ≡ Ok 10)
+    × (write_plan plan_a 76 ≡ Err Buffer)
+    × (write_plan (plan_of 1 70 7 2 (1 ∷ 1 ∷ [])) 76 ≡ Err Job)
     -- the answers' numbers; a refused record leaves every byte, a written one those past its message
     × (written_number (write_plan plan_a 77) ≡ 256 * 10)
     × (written_number (write_plan (plan_of 1 70 7 2 (1 ∷ 1 ∷ [])) 77) ≡ 18)

@@ -1,7 +1,7 @@
 -- Reading a plan message: 01's checks, one step a row of its table, in message order.
-use Rattle.std.specs.Prelude.{ℕ, List, []}
+use Rattle.refusal.specs.Answers.{Verdict, Accepted}
+use Rattle.std.specs.Prelude.{ℕ, List, [], Err}
 use Rattle.refusal.specs.declared.Reason.TheVariants.{Edition, Goal, Jobs, Job}
-use Rattle.refusal.specs.declared.Verdict.TheVariants.{Accepted, Refused}
 use Rattle.number.specs.Readers.{Found, found, refused, Reader, ◌>>=◌, ◌>>◌, give}
 use Rattle.number.specs.Numbers.{number}
 use Rattle.fields.specs.Fields.{field, within}
@@ -9,7 +9,6 @@ use Rattle.fields.specs.Lists.{filled}
 use Rattle.fields.specs.Messages.{opening, end}
 use Rattle.fields.specs.Orders.{in_order, followed_by}
 use Rattle.plan.specs.declared.Plan.{Plan}
-use Rattle.plan.specs.declared.Reading.{Reading}
 use Rattle.plan.specs.Record.{fresh, job_list}
 
 -- the job at each place, 1 to T, each judged after those at the earlier places
@@ -41,10 +40,15 @@ plan = do
 abbrev pub blank : Plan
 blank = plan_of 0 0 0 0 []
 
+-- what reading a plan message gives: on a refusal the record is all 0
+pub record Reading : Type 0 where
+  pub verdict : Verdict
+  pub plan : Plan
+
 -- a message is accepted when its reader refuses nothing in it
 abbrev pub as_reading : Found Plan → Reading
 as_reading (found p n) = record { verdict = Accepted; plan = p }
-as_reading (refused r) = record { verdict = Refused r; plan = blank }
+as_reading (refused r) = record { verdict = Err r; plan = blank }
 
 -- what reading bytes gives
 unfoldable pub read_plan : List ℕ → Reading

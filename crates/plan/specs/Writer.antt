@@ -1,6 +1,6 @@
 -- What the plan writer promises: demand 2 of it, and that its refusals change nothing.
+use Rattle.refusal.specs.Answers.{Written}
 use Rattle.std.specs.Prelude.{ℕ, List}
-use Rattle.refusal.specs.declared.Written.{Written}
 use Rattle.fields.specs.Writers.{Writes}
 use Rattle.plan.specs.declared.Plan.{Plan}
 use Rattle.plan.specs.Record.{Valid, Same}

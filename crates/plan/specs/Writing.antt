@@ -1,8 +1,7 @@
 -- Writing a plan message.
+use Rattle.refusal.specs.Answers.{Verdict, Written}
 use Rattle.std.specs.Prelude.{ℕ, ◌-◌, ◌^◌, Bool, List, [], ◌∷◌, ◌++◌, length}
 use Rattle.refusal.specs.declared.Reason.TheVariants.{Groups, Goal, Jobs, Job}
-use Rattle.refusal.specs.declared.Verdict.{Verdict}
-use Rattle.refusal.specs.declared.Written.{Written}
 use Rattle.number.specs.Numbers.{encode}
 use Rattle.fields.specs.Fields.{within, encode_all}
 use Rattle.fields.specs.Messages.{check, ◌before◌, write_answer, buffer_after}

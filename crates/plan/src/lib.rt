@@ -1,8 +1,6 @@
 // The plan message: its record. Its reader is `plan_reader`, its writer `plan_writer`.
 #![tactic(auto)]
 
-use refusal::Verdict;
-
 // A plan. Numbers are wider than their bounds, so that each of the writer's refusals is a condition on a record.
 // Jobs and places count from 1; what stands past `jobs` means nothing, and is 0 in a record that was read.
 #[derive(Clone, Copy)]
@@ -17,11 +15,4 @@ pub struct Plan {
     pub jobs: u32,
     // The job at each place.
     pub order: [u8; 60],
-}
-
-// What reading a plan message gives: on a refusal the record is all 0.
-#[derive(Clone, Copy)]
-pub struct Reading {
-    pub verdict: Verdict,
-    pub plan: Plan,
 }

@@ -1,14 +1,13 @@
 -- What reading and writing plans promise together.
 -- Assumes nothing.
+use Rattle.std.specs.Prelude.{Err}
 use Prim.Native.Nat.{ℕ, ◌≤◌}
 use mathlib.Core.Path.{◌≡◌, ap}
 use mathlib.Core.Logic.{◌↔◌, ◌≢◌, inl, inr}
 use mathlib.Core.List.{List}
 use lib.ListN.{length, take}
 use Rattle.refusal.specs.declared.Reason.{Reason}
-use Rattle.refusal.specs.declared.Verdict.TheVariants.{Accepted, Refused}
-use Rattle.refusal.specs.declared.Written.{Written}
-use Rattle.refusal.specs.Answers.{verdict_number, refusal_of}
+use Rattle.refusal.specs.Answers.{verdict_number, refusal_of, Written, Accepted}
 use Rattle.number.proofs.Steps.{below_or_not}
 use Rattle.fields.specs.Lists.{Bytes}
 use Rattle.fields.proofs.Judged.{high_out}
@@ -77,7 +76,7 @@ pub refused_blank : (s : List ℕ) → refusal_of (verdict_number (read_plan s).
 refused_blank = blank_of reads
 
 -- a record that fits a message: the writer refuses it with the refusal that the reader would give its message
-pub refused_alike : (p : Plan) (r : Reason) → Fits p → judge p ≡ Refused r → (read_plan (message p)).verdict ≡ Refused r
+pub refused_alike : (p : Plan) (r : Reason) → Fits p → judge p ≡ Err r → (read_plan (message p)).verdict ≡ Err r
 refused_alike = refused_like plan_message reads
 
 -- what stands past T makes no difference to the verdict on a record, to the writer's answer, and to the buffer

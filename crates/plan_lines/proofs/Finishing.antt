@@ -8,45 +8,35 @@ use native.Mathlib.Nat.{sub-zero}
 use native.Mathlib.Numerals.{add-one}
 use lib.ListN.{length, get_or, drop, length-map, get_or-eq_default}
 use lib.Seq.{drop-cons}
+use Rattle.std.specs.List.{slice_range}
+use Rattle.std.proofs.lemmas.List.{get_or-take}
 use Rattle.gaps.specs.declared.Gap.{Gap}
-use Rattle.gaps.specs.Gaps.{gap_index, as_gap, gap_between, seconds_of}
+use Rattle.gaps.specs.Gaps.{seconds_of}
 use Rattle.sequencing.specs.Lists.{at}
-use Rattle.sequencing.specs.Problem.{Problem, kind as kindIn}
+use Rattle.sequencing.specs.Problem.{kind as kindIn}
 use Rattle.sequencing.specs.Orders.{finishes}
 use Rattle.queue.specs.declared.Queue.{Queue}
-use Rattle.queue.specs.Record.{kind, kind_list}
-use Rattle.plan.specs.declared.Plan.{Plan}
+use Rattle.queue.specs.Record.{kind_list}
 use Rattle.problem.specs.OfQueue.{problem}
 use Rattle.problem.proofs.Rule.{jobs_is, kind_is}
-use Rattle.plan_lines.specs.declared.Line.{Line}
-use Rattle.plan_lines.specs.Lines.{finish_at, line_at}
 
 -- ---- the element at i
 
-pub at_zero : (xs : List ℕ) (i : ℕ) → i < 1 → 0 ≡ at xs i
-at_zero xs zero h = refl
-at_zero xs (suc i) h = absurd (omega arith)
-
-pub at_past : (xs : List ℕ) (i : ℕ) → length xs < i → 0 ≡ at xs i
+at_past : (xs : List ℕ) (i : ℕ) → length xs < i → 0 ≡ at xs i
 at_past xs zero h = refl
 at_past xs (suc i) h = sym (get_or-eq_default xs 0 (omega arith))
 
--- a gap that the record does not have
-pub gap_none : (xs : List ℕ) (n row kind : ℕ) → n ≡ gap_index row kind → length xs ≤ n → 0 ≡ seconds_of (gap_between xs row kind)
-gap_none xs n row kind e h = ap (λ (g : ℕ). seconds_of (as_gap g)) (sym (get_or-eq_default xs 0 (omega arith)))
-
 -- ---- the kind of a job
 
-module _ (q : Queue) (i : ℕ) where
-  pub kind_past : q.jobs < i → 0 ≡ kindIn (problem q) i
-  kind_past h = at_past (kind_list q) i (omega (arith, jobs_is q))
+module _ (q : Queue) where
+  -- a job that the queue does not have
+  pub kind_past : (i : ℕ) → q.jobs < i → 0 ≡ kindIn (problem q) i
+  kind_past i h = at_past (kind_list q) i (omega (arith, jobs_is q))
 
-  pub kind_within : 1 ≤ i → i ≤ q.jobs → kind q i ≡ kindIn (problem q) i
-  kind_within l u = sym (kind_is q i l (omega (arith, jobs_is q)))
-
-  -- the array ends before the queue's number of jobs
-  pub kind_far : 1 ≤ i → i ≤ q.jobs → length q.job_kinds < i → 0 ≡ kindIn (problem q) i
-  kind_far l u h = sym (get_or-eq_default q.job_kinds 0 (omega arith)) ∙ kind_within l u
+  -- any other, job 0 among them, which has none
+  pub kind_within : (i : ℕ) → i ≤ q.jobs → at q.job_kinds i ≡ kindIn (problem q) i
+  kind_within zero u = refl
+  kind_within (suc i) u = ap (λ (k : ℕ). get_or q.job_kinds k 0) (omega arith) ∙ sym (kind_is q (suc i) (omega arith) (omega (arith, jobs_is q)))
 
 -- ---- the finishes
 
@@ -74,19 +64,15 @@ module _ (gap : ℕ → ℕ → Gap) (kind : ℕ → ℕ) (start : ℕ) (o : Lis
       from_start (suc p) = rw sub-zero
 
   module _ (place L t k : ℕ) (w : Cutting place L t k) where
-    pub cutting_more : k < place → place ≤ length o → (x g t' : ℕ) → x ≡ kind (get_or o k 0) → g ≡ seconds_of (gap L x) → g < 2 ^ 32 → t' ≡ t + g
-        → Cutting place x t' (k + 1)
+    pub cutting_more : (cut : List ℕ) → cut ≡ slice_range o 0 place → length cut + 0 ≡ place → k < length cut → place ≤ length o
+        → (x g t' : ℕ) → x ≡ kind (get_or cut k 0) → g ≡ seconds_of (gap L x) → g < 2 ^ 32 → t' ≡ t + g → Cutting place x t' (k + 1)
     unfolding finishes
-    cutting_more h u x g t' xe ge s te =
+    cutting_more cut cut-is cut-length h u x g t' xe ge s te =
+        let few : k < place = omega arith in
         let e : place - k ≡ suc (place - (k + 1)) = omega arith in
         let d : k < length o = omega arith in
-        record { few = omega arith; small = omega (arith, w.small); rest = w.rest ∙ rw (e, drop-cons o k 0 d, ← xe, ← ge, ← te, add-one) }
+        let here : get_or cut k 0 ≡ get_or o k 0 = rw (cut-is, sub-zero) (get_or-take place o k 0 few) in
+        record { few = omega arith; small = omega (arith, w.small); rest = w.rest ∙ rw (e, drop-cons o k 0 d, ← here, ← xe, ← ge, ← te, add-one) }
 
     pub cutting_done : place ≤ k → t ≡ at (finishes gap start 0 (map kind o)) place
     cutting_done h = let e : place - k ≡ 0 = omega arith in sym (w.rest ∙ rw e)
-
--- ---- a line
-
-pub line_is : (P : Problem) (p : Plan) (place job kind t : ℕ) → job ≡ at p.order place → kind ≡ kindIn P job → t ≡ finish_at P p.order place
-    → ◌≡◌ {A = Line} (record { place = place; job = job; kind = kind; finish = record { 0 = t } }) (line_at P p place)
-line_is P p place job kind t je ke te = rw (ke, je, te)

@@ -1,3 +1,4 @@
 pub mod Windows
 pub mod Same
 pub mod Examples
+pub mod Answered

@@ -1,10 +1,8 @@
 -- The queue messages of 01's cases A, G and I, read and written; a message for each of the reader's refusals; records for the writer's.
-use Rattle.std.specs.Prelude.{ℕ, ◌+◌, ◌*◌, ◌≡◌, drop, take, replicate}
+use Rattle.std.specs.Prelude.{ℕ, ◌+◌, ◌*◌, ◌≡◌, drop, take, replicate, Ok, Err}
 use mathlib.Core.List.{List, [], ◌∷◌, ◌++◌}
 use Rattle.refusal.specs.declared.Reason.TheVariants.{Opening, Ends, Groups, Edition, Kinds, Goal, Shift, Start, Gap, Pupils, Places, Jobs, JobKind, LeftOver, Buffer}
-use Rattle.refusal.specs.declared.Verdict.TheVariants.{Accepted, Refused}
-use Rattle.refusal.specs.declared.Written.TheVariants.{Bytes, Refused as NotWritten}
-use Rattle.refusal.specs.Answers.{written_number}
+use Rattle.refusal.specs.Answers.{written_number, Accepted}
 use Rattle.number.specs.Readers.{refused}
 use Rattle.queue.specs.declared.Queue.{Queue}
 use Rattle.queue.specs.Reading.{head_of, with_jobs, accepted, as_reading, read_queue}
@@ -68,9 +66,9 @@ Examples =
     × (read_queue (with 22 (0x03 ∷ [])) ≡ as_reading (refused JobKind))
     × (read_queue (bytes_a ++ (0x00 ∷ [])) ≡ as_reading (refused LeftOver))
     -- writing: the record before the buffer
-    × (write_queue (queue_of 2 1 3 (1 ∷ 2 ∷ 1 ∷ [])) 178 ≡ Bytes 23)
-    × (write_queue (queue_of 2 1 3 (1 ∷ 2 ∷ 1 ∷ [])) 177 ≡ NotWritten Buffer)
-    × (write_queue (queue_of 2 7 3 (1 ∷ 2 ∷ 1 ∷ [])) 0 ≡ NotWritten Goal)
+    × (write_queue (queue_of 2 1 3 (1 ∷ 2 ∷ 1 ∷ [])) 178 ≡ Ok 23)
+    × (write_queue (queue_of 2 1 3 (1 ∷ 2 ∷ 1 ∷ [])) 177 ≡ Err Buffer)
+    × (write_queue (queue_of 2 7 3 (1 ∷ 2 ∷ 1 ∷ [])) 0 ≡ Err Goal)
     -- the answers' numbers; a refused record leaves every byte, a written one those past its message
     × (written_number (write_queue (queue_of 2 1 3 (1 ∷ 2 ∷ 1 ∷ [])) 178) ≡ 256 * 23)
     × (written_number (write_queue (queue_of 2 7 3 (1 ∷ 2 ∷ 1 ∷ [])) 178) ≡ 6)
@@ -78,14 +76,14 @@ Examples =
     × (written_queue (queue_of 2 1 3 (1 ∷ 2 ∷ 1 ∷ [])) (replicate 178 0xAA) ≡ bytes_a ++ replicate 155 0xAA)
     -- a record at its bounds, then each bound passed by one, 5 to 13
     × (judge (record_of 60 2 65536 1000 (60, 60) (1 ∷ 2 ∷ 2 ∷ [])) ≡ Accepted)
-    × (judge (queue_of 6 1 3 (1 ∷ 2 ∷ 1 ∷ [])) ≡ Refused Kinds)
-    × (judge (queue_of 2 3 3 (1 ∷ 2 ∷ 1 ∷ [])) ≡ Refused Goal)
-    × (judge (record_of 61 0 10 3 (1, 60) (1 ∷ 2 ∷ 1 ∷ [])) ≡ Refused Shift)
-    × (judge (record_of 1 3 10 3 (1, 60) (1 ∷ 2 ∷ 1 ∷ [])) ≡ Refused Start)
-    × (judge (record_of 1 0 65537 3 (1, 60) (1 ∷ 2 ∷ 1 ∷ [])) ≡ Refused Gap)
-    × (judge (record_of 1 0 10 1001 (1, 60) (1 ∷ 2 ∷ 1 ∷ [])) ≡ Refused Pupils)
-    × (judge (record_of 1 0 10 3 (0, 60) (1 ∷ 2 ∷ 1 ∷ [])) ≡ Refused Places)
-    × (judge (record_of 1 0 10 3 (1, 61) (1 ∷ 2 ∷ 1 ∷ [])) ≡ Refused Places)
-    × (judge (queue_of 2 1 61 []) ≡ Refused Jobs)
-    × (judge (record_of 1 0 10 3 (1, 60) (1 ∷ 2 ∷ 3 ∷ [])) ≡ Refused JobKind)
-    × (judge (record_of 1 0 10 3 (1, 60) (1 ∷ 2 ∷ 0 ∷ [])) ≡ Refused JobKind)
+    × (judge (queue_of 6 1 3 (1 ∷ 2 ∷ 1 ∷ [])) ≡ Err Kinds)
+    × (judge (queue_of 2 3 3 (1 ∷ 2 ∷ 1 ∷ [])) ≡ Err Goal)
+    × (judge (record_of 61 0 10 3 (1, 60) (1 ∷ 2 ∷ 1 ∷ [])) ≡ Err Shift)
+    × (judge (record_of 1 3 10 3 (1, 60) (1 ∷ 2 ∷ 1 ∷ [])) ≡ Err Start)
+    × (judge (record_of 1 0 65537 3 (1, 60) (1 ∷ 2 ∷ 1 ∷ [])) ≡ Err Gap)
+    × (judge (record_of 1 0 10 1001 (1, 60) (1 ∷ 2 ∷ 1 ∷ [])) ≡ Err Pupils)
+    × (judge (record_of 1 0 10 3 (0, 60) (1 ∷ 2 ∷ 1 ∷ [])) ≡ Err Places)
+    × (judge (record_of 1 0 10 3 (1, 61) (1 ∷ 2 ∷ 1 ∷ [])) ≡ Err Places)
+    × (judge (queue_of 2 1 61 []) ≡ Err Jobs)
+    × (judge (record_of 1 0 10 3 (1, 60) (1 ∷ 2 ∷ 3 ∷ [])) ≡ Err JobKind)
+    × (judge (record_of 1 0 10 3 (1, 60) (1 ∷ 2 ∷ 0 ∷ [])) ≡ Err JobKind)

@@ -1,5 +1,6 @@
 -- Reading a queue message: 01's checks, one step a row of its table, in message order.
-use Rattle.std.specs.Prelude.{ℕ, suc, ◌+◌, List, [], ◌∷◌, map, replicate}
+use Rattle.refusal.specs.Answers.{Verdict, Accepted}
+use Rattle.std.specs.Prelude.{ℕ, suc, ◌+◌, List, [], ◌∷◌, map, replicate, Ok, Err}
 use Rattle.std.proofs.lemmas.List.Edits.{sets}
 use Rattle.refusal.specs.declared.Reason.TheVariants.{Edition, Kinds, Goal, Shift, Start, Gap, Pupils, Places, Jobs, JobKind}
 use Rattle.number.specs.Readers.{Found, found, refused, Reader, ◌>>=◌, ◌>>◌, give, times}
@@ -9,10 +10,9 @@ use Rattle.fields.specs.Lists.{filled}
 use Rattle.gaps.specs.Gaps.{gap_row}
 use Rattle.fields.specs.Messages.{opening, end}
 use Rattle.queue.specs.declared.Queue.{Queue}
-use Rattle.refusal.specs.declared.Verdict.TheVariants.{Accepted, Refused}
-use Rattle.queue.specs.declared.Reading.{Reading}
 use Rattle.queue.specs.declared.Settings.{Settings}
-use Rattle.queue.specs.Record.{rows, weight_list, windows, kind_list, window_ok}
+use Rattle.queue.specs.declared.Window.{Window}
+use Rattle.queue.specs.Record.{no_window, rows, weight_list, windows, kind_list, window_ok}
 
 -- allowed places of one kind, judged after b_j
 abbrev pub window : Reader (ℕ × ℕ)
@@ -35,6 +35,10 @@ settings = do
   start ← field 3 (within 0 n) Start
   give (record { kinds = n; goal = goal; max_shift = shift; start = start })
 
+-- a_j b_j as a record holds them
+abbrev pub held : ℕ × ℕ → Window
+held w = record { first = w.0; last = w.1 }
+
 -- a queue without jobs
 abbrev pub head_of : Settings → List (List ℕ) → List ℕ → List (ℕ × ℕ) → Queue
 head_of f rows weights windows = record {
@@ -44,8 +48,7 @@ head_of f rows weights windows = record {
   start = f.start;
   gaps = placed (replicate 30 0) 0 rows;
   weights = filled 5 weights;
-  first_places = filled 5 (map (λ w. w.0) windows);
-  last_places = filled 5 (map (λ w. w.1) windows);
+  windows = sets (replicate 5 no_window) 0 (map held windows);
   jobs = 0;
   job_kinds = replicate 60 0;
 }
@@ -71,8 +74,7 @@ with_jobs q t kinds = record {
   start = q.start;
   gaps = q.gaps;
   weights = q.weights;
-  first_places = q.first_places;
-  last_places = q.last_places;
+  windows = q.windows;
   jobs = t;
   job_kinds = filled 60 kinds;
 }
@@ -108,11 +110,15 @@ blank = record {
   start = 0;
   gaps = replicate 30 0;
   weights = replicate 5 0;
-  first_places = replicate 5 0;
-  last_places = replicate 5 0;
+  windows = replicate 5 no_window;
   jobs = 0;
   job_kinds = replicate 60 0;
 }
+
+-- what reading a queue message gives: on a refusal the record is all 0
+pub record Reading : Type 0 where
+  pub verdict : Verdict
+  pub queue : Queue
 
 -- a message is accepted when its reader refuses nothing in it
 abbrev pub accepted : Queue → Reading
@@ -121,7 +127,7 @@ accepted q = record { verdict = Accepted; queue = q }
 -- the record, or the one refusal with the record of zeros
 abbrev pub as_reading : Found Queue → Reading
 as_reading (found q n) = accepted q
-as_reading (refused r) = record { verdict = Refused r; queue = blank }
+as_reading (refused r) = record { verdict = Err r; queue = blank }
 
 -- what reading bytes gives
 unfoldable pub read_queue : List ℕ → Reading

@@ -1,12 +1,24 @@
 -- What a queue record holds, in document 01's terms, and the bounds on it.
-use Rattle.std.specs.Prelude.{ℕ, ◌+◌, ◌-◌, ◌^◌, ◌<◌, ◌≤◌, Bool, ◌&&◌, List, ◌≡◌, leb, get_or}
+use Rattle.std.specs.Prelude.{ℕ, ◌+◌, ◌-◌, ◌^◌, ◌<◌, ◌≤◌, Bool, ◌&&◌, List, map, ◌≡◌, leb, get_or}
 use Rattle.fields.specs.Lists.{tabulate}
 use Rattle.gaps.specs.Gaps.{gap_at}
 use Rattle.queue.specs.declared.Queue.{Queue}
+use Rattle.queue.specs.declared.Window.{Window}
 
 -- allowed places (a_j, b_j): 11 where a_j is 0, b_j < a_j, or b_j over 60
 abbrev pub window_ok : ℕ × ℕ → Bool
 window_ok w = leb 1 w.0 && leb w.0 w.1 && leb w.1 60
+
+-- the places allowed to no kind
+abbrev pub no_window : Window
+no_window = record { first = 0; last = 0 }
+
+-- a_j b_j of a window
+abbrev pub pair_of : Window → ℕ × ℕ
+pair_of w = (w.first, w.last)
+
+abbrev pub window_pairs : List Window → List (ℕ × ℕ)
+window_pairs windows = map pair_of windows
 
 module _ (q : Queue) where
   -- gap(i, j)
@@ -19,11 +31,11 @@ module _ (q : Queue) where
 
   -- a_j, the first place allowed to kind j
   abbrev pub first_place : ℕ → ℕ
-  first_place j = get_or q.first_places (j - 1) 0
+  first_place j = (get_or q.windows (j - 1) no_window).first
 
   -- b_j, the last place allowed to kind j
   abbrev pub last_place : ℕ → ℕ
-  last_place j = get_or q.last_places (j - 1) 0
+  last_place j = (get_or q.windows (j - 1) no_window).last
 
   -- the kind of job i
   abbrev pub kind : ℕ → ℕ

@@ -1,6 +1,6 @@
 -- What the queue writer promises: demand 2 of it, and that its refusals change nothing.
+use Rattle.refusal.specs.Answers.{Written}
 use Rattle.std.specs.Prelude.{ℕ, List}
-use Rattle.refusal.specs.declared.Written.{Written}
 use Rattle.fields.specs.Writers.{Writes}
 use Rattle.queue.specs.declared.Queue.{Queue}
 use Rattle.queue.specs.Record.{Valid, Same}

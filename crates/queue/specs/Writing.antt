@@ -1,4 +1,5 @@
 -- Writing a queue message.
+use Rattle.refusal.specs.Answers.{Verdict, Written}
 use Rattle.std.specs.Prelude.{ℕ, length}
 use mathlib.Core.List.{List, [], ◌∷◌, ◌++◌, flat_map}
 use Rattle.refusal.specs.declared.Reason.TheVariants.{Kinds, Goal, Shift, Start, Gap, Pupils, Places, Jobs, JobKind}
@@ -6,8 +7,6 @@ use Rattle.number.specs.Numbers.{encode}
 use Rattle.fields.specs.Fields.{within, all, encode_all}
 use Rattle.fields.specs.Messages.{check, ◌before◌, write_answer, buffer_after}
 use Rattle.queue.specs.declared.Queue.{Queue}
-use Rattle.refusal.specs.declared.Verdict.{Verdict}
-use Rattle.refusal.specs.declared.Written.{Written}
 use Rattle.queue.specs.Record.{rows, weight_list, windows, kind_list, window_ok}
 
 -- a_j b_j

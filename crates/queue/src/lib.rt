@@ -4,7 +4,12 @@
 ghost use Rattle.std.specs.Prelude.{◌≡◌};
 ghost use Rattle.queue.specs.Record.{window_ok};
 
-use refusal::Verdict;
+// The places allowed to a kind: 01's a_j and b_j.
+#[derive(Clone, Copy, Debug, PartialEq, Eq)]
+pub struct Window {
+    pub first: u8,
+    pub last: u8,
+}
 
 // A queue. Numbers are wider than their bounds, so that each of the writer's refusals is a condition on a record.
 // Kinds, jobs and places count from 1; what stands past `kinds` and `jobs` means nothing, and is 0 in a record that was read.
@@ -22,20 +27,12 @@ pub struct Queue {
     pub gaps: [u32; 30],
     // Pupils waiting for one job of each kind.
     pub weights: [u32; 5],
-    // a_j and b_j, the places allowed to each kind.
-    pub first_places: [u8; 5],
-    pub last_places: [u8; 5],
+    // The places allowed to each kind.
+    pub windows: [Window; 5],
     // 01's T.
     pub jobs: u32,
     // The kind of each job, by hand-in.
     pub job_kinds: [u8; 60],
-}
-
-// What reading a queue message gives: on a refusal the record is all 0.
-#[derive(Clone, Copy)]
-pub struct Reading {
-    pub verdict: Verdict,
-    pub queue: Queue,
 }
 
 // The numbers before the gaps.
@@ -51,8 +48,5 @@ pub struct Settings {
 pub fn is_window(first: u64, last: u64) -> bool
     ensures { result ≡ window_ok (first, last) }
 {
-    if !fields::is_within(first, 1, last) {
-        return false;
-    }
-    last <= 60
+    fields::is_within(first, 1, last) && last <= 60
 }

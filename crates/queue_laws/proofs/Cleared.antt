@@ -1,13 +1,13 @@
 -- What stands past N and T in a record makes no difference to a writer: the verdict and the message are those of the record's parts.
 -- Assumes nothing.
+use Rattle.refusal.specs.Answers.{Verdict}
+use Rattle.std.specs.Prelude.{Err}
 use Prim.Native.Nat.{ℕ, ◌<◌, ◌≤◌}
 use mathlib.Core.Path.{◌≡◌, refl, sym, ap, ◌∙◌}
 use mathlib.Core.Logic.{inl, inr}
 use mathlib.Core.List.{List, [], ◌∷◌, ◌++◌}
 use lib.ListN.{length}
 use Rattle.refusal.specs.declared.Reason.TheVariants.{Kinds, Jobs}
-use Rattle.refusal.specs.declared.Verdict.{Verdict}
-use Rattle.refusal.specs.declared.Verdict.TheVariants.{Refused}
 use Rattle.number.proofs.Steps.{below_or_not}
 use Rattle.fields.specs.Messages.{◌before◌}
 use Rattle.fields.proofs.Judged.{high_out}
@@ -45,11 +45,11 @@ module _ (q : Queue) where
       λ i. (1, (settings_of (view q), (tables i, (q.jobs, kinds i))))
 
   -- a record with too many kinds or jobs is refused before the arrays that cannot hold so many are looked at
-  many_kinds : 5 < q.kinds → judge q ≡ Refused Kinds
+  many_kinds : 5 < q.kinds → judge q ≡ Err Kinds
   unfolding judge judge_head judge_settings
   many_kinds h = rw (high_out 1 5 q.kinds h)
 
-  many_jobs : 60 < q.jobs → judge q ≡ (judge_settings q before judge_tables q) before Refused Jobs
+  many_jobs : 60 < q.jobs → judge q ≡ (judge_settings q before judge_tables q) before Err Jobs
   unfolding judge judge_head judge_jobs
   many_jobs h = rw (high_out 0 60 q.jobs h)
 
@@ -63,7 +63,7 @@ module _ (q : Queue) where
   cleared_judge = elim (below_or_not 5 q.kinds) [
     | inl h ↦ many_kinds (cleared q) h ∙ sym (many_kinds q h)
     | inr h ↦ elim (below_or_not 60 q.jobs) [
-      | inl t ↦ many_jobs (cleared q) t ∙ ap (λ (v : Verdict). (judge_settings q before v) before Refused Jobs) (cleared_tables h) ∙ sym (many_jobs q t)
+      | inl t ↦ many_jobs (cleared q) t ∙ ap (λ (v : Verdict). (judge_settings q before v) before Err Jobs) (cleared_tables h) ∙ sym (many_jobs q t)
       | inr t ↦ same_judge (cleared q) q (cleared_view q h t)
     ]
   ]

@@ -1,4 +1,5 @@
 pub mod GapRows
+pub mod WindowArray
 pub mod Format
 pub mod Message
 pub mod Cleared

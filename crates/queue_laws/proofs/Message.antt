@@ -1,20 +1,20 @@
 -- The definitions of the queue message are its format's, of a record's parts; so the laws of formats hold of them.
 -- Assumes nothing.
-use Prim.Native.Nat.{ℕ, ◌+◌, ◌-◌, ◌^◌, ◌<◌, ◌≤◌}
-use mathlib.Core.Path.{◌≡◌, refl, ◌∙◌}
-use mathlib.Core.List.{List, [], ◌∷◌, ◌++◌, map, flat_map, append_assoc}
+use Rattle.refusal.specs.Answers.{Accepted}
+use Prim.Native.Nat.{ℕ, ◌+◌, ◌^◌, ◌<◌, ◌≤◌}
+use mathlib.Core.Path.{◌≡◌, refl}
+use mathlib.Core.List.{List, [], ◌∷◌, ◌++◌, flat_map, append_assoc}
 use native.Mathlib.Omega.{arith}
-use lib.ListN.{length, get_or, length-map}
+use lib.ListN.{length}
 use Rattle.refusal.specs.declared.Reason.{Reason}
 use Rattle.refusal.specs.declared.Reason.TheVariants.{Opening, LeftOver, Edition, Kinds, Goal, Shift, Start, Gap, Pupils, Places, Jobs, JobKind}
-use Rattle.refusal.specs.declared.Verdict.TheVariants.{Accepted}
 use Rattle.number.specs.Numbers.{encode}
 use Rattle.fields.specs.Fields.{encode_all}
-use Rattle.fields.specs.Lists.{tabulate, filled}
+use Rattle.fields.specs.Lists.{tabulate}
 use Rattle.fields.proofs.Orders.{kept}
 use Rattle.fields.proofs.Codecs.{All, all_map}
 use Rattle.fields.proofs.Tables.{length_tabulate, all_tabulate, tabulate_all}
-use Rattle.fields.proofs.Arrays.{array_back, tabulate_pairs}
+use Rattle.fields.proofs.Arrays.{array_back}
 use Rattle.queue.specs.declared.Queue.{Queue}
 use Rattle.queue.specs.Record.{gap, weight, first_place, last_place, kind, rows, weight_list, windows, kind_list, Valid, Fits}
 use Rattle.queue.specs.Reading.{settings, tables, head, head_of, with_jobs, jobs, queue, cleared}
@@ -25,6 +25,7 @@ use Rattle.formats.proofs.Runs.{InTurn, each_all, all_any}
 use Rattle.formats.proofs.Whole.{whole}
 use Rattle.formats.proofs.Messages.{Message, Tied, laws}
 use Rattle.queue_laws.proofs.GapRows.{rows_back}
+use Rattle.queue_laws.proofs.WindowArray.{windows_back}
 use Rattle.queue_laws.proofs.Format.{WindowOk, settings_format, Parts, settings_of, tables_of, rows_of, weights_of, windows_of, jobs_of, kinds_of, queue_format}
 
 -- a record's parts, up to N and T
@@ -74,12 +75,10 @@ module _ (p : Parts) where
   pub tables_back : TablesFit p → tables_of (view (make p)) ≡ tables_of p
   tables_back fit =
       let n = (settings_of p).kinds in
-      let ws = windows_of p in
-      let side : (f : ℕ × ℕ → ℕ) → tabulate (λ j. get_or (filled 5 (map f ws)) (j - 1) 0) 1 n ≡ map f ws = λ f. array_back 5 n (map f ws) (length-map ws f ∙ fit.windows) fit.few in
       let gaps-same = rows_back n (rows_of p) fit.few fit.rows fit.columns in
       let weights-same = array_back 5 n (weights_of p) fit.weights fit.few in
-      let places_same = tabulate_pairs (first_place (make p)) (last_place (make p)) 1 n ws (side (λ w. w.0)) (side (λ w. w.1)) in
-      λ i. (gaps-same i, (weights-same i, places_same i))
+      let windows_same = windows_back (windows_of p) n fit.few fit.windows in
+      λ i. (gaps-same i, (weights-same i, windows_same i))
 
   pub kinds_back : length (kinds_of p) ≡ jobs_of p → jobs_of p ≤ 60 → kind_list (make p) ≡ kinds_of p
   kinds_back long few = array_back 60 (jobs_of p) (kinds_of p) long few

@@ -1,5 +1,6 @@
 -- What reading and writing queues promise together.
 -- Assumes nothing.
+use Rattle.std.specs.Prelude.{Err}
 use Prim.Native.Nat.{ℕ, ◌≤◌}
 use mathlib.Core.Path.{◌≡◌, ap}
 use mathlib.Core.Logic.{◌↔◌, ◌≢◌}
@@ -7,9 +8,7 @@ use mathlib.Core.List.{List}
 use native.Mathlib.Omega.{arith}
 use lib.ListN.{length, take}
 use Rattle.refusal.specs.declared.Reason.{Reason}
-use Rattle.refusal.specs.declared.Verdict.TheVariants.{Accepted, Refused}
-use Rattle.refusal.specs.declared.Written.{Written}
-use Rattle.refusal.specs.Answers.{verdict_number, refusal_of}
+use Rattle.refusal.specs.Answers.{verdict_number, refusal_of, Written, Accepted}
 use Rattle.refusal.proofs.Reasons.{OfMessage}
 use Rattle.fields.specs.Lists.{Bytes}
 use Rattle.fields.proofs.Writers.{writes}
@@ -78,7 +77,7 @@ pub refused_blank : (s : List ℕ) → refusal_of (verdict_number (read_queue s)
 refused_blank = blank_of reads
 
 -- the refusals of queue messages are 01's 1 to 14 ..
-pub queue_refusal : (s : List ℕ) (r : Reason) → (read_queue s).verdict ≡ Refused r → QueueRefusal r
+pub queue_refusal : (s : List ℕ) (r : Reason) → (read_queue s).verdict ≡ Err r → QueueRefusal r
 queue_refusal s r e =
     arises_in QueueRefusal on_ends on_groups queue_refusals
     (on_opening, (on_left_over, (on_edition, (on_kinds, (on_goal, (on_shift, (on_start, (on_gap, (on_pupils, (on_places, (on_jobs, (on_job_kind, tt)))))))))))) r
@@ -102,5 +101,5 @@ queue_of_message r on_job_kind = omega arith
 queue_of_message r on_left_over = omega arith
 
 -- a record that fits a message: the writer refuses it with the refusal that the reader would give its message
-pub refused_alike : (q : Queue) (r : Reason) → Fits q → judge q ≡ Refused r → (read_queue (message q)).verdict ≡ Refused r
+pub refused_alike : (q : Queue) (r : Reason) → Fits q → judge q ≡ Err r → (read_queue (message q)).verdict ≡ Err r
 refused_alike = refused_like queue_message reads

@@ -3,9 +3,9 @@
 use Prim.Native.Nat.{ℕ, suc, ◌+◌, ◌/◌, ◌%◌, ◌≤◌, ◌<◌}
 use mathlib.Core.Path.{◌≡◌, refl, ◌∙◌}
 use mathlib.Core.Logic.{◌⊎◌, inl, inr}
-use mathlib.Core.List.{List, [], ◌∷◌, map}
+use mathlib.Core.List.{List, [], ◌∷◌}
 use native.Mathlib.Omega.{arith}
-use lib.ListN.{length, get_or, replicate, length-map}
+use lib.ListN.{length, get_or, replicate}
 use lib.Seq.{sets}
 use Rattle.number.proofs.Steps.{below_or_not}
 use Rattle.fields.specs.Lists.{tabulate}
@@ -14,8 +14,9 @@ use Rattle.fields.proofs.Tables.{length_tabulate, all_tabulate}
 use Rattle.fields.proofs.Arrays.{get_d_sets_past, get_d_sets_before, get_d_zeros, filled_past}
 use Rattle.gaps.specs.Gaps.{gap_row}
 use Rattle.queue.specs.declared.Queue.{Queue}
-use Rattle.queue.specs.Record.{gap, weight, first_place, last_place, kind, rows, weight_list, windows, kind_list}
+use Rattle.queue.specs.Record.{no_window, gap, weight, first_place, last_place, kind, rows, weight_list, windows, kind_list}
 use Rattle.queue.specs.Reading.{placed, cleared}
+use Rattle.queue_laws.proofs.WindowArray.{none_past}
 
 -- outside the columns and rows that are placed nothing changes
 placed_past : (n m : ℕ) → n ≤ 5 → (rows : List (List ℕ)) (gaps : List ℕ) (k : ℕ) → All (λ r. length r ≡ n) rows
@@ -38,13 +39,9 @@ module _ (q : Queue) where
   unfolding cleared
   weights_past k h = filled_past 5 (weight_list q) k (omega (arith, length_tabulate (weight q) 1 q.kinds))
 
-  pub first_places_past : (k : ℕ) → q.kinds ≤ k → get_or (cleared q).first_places k 0 ≡ 0
+  pub windows_past : (k : ℕ) → q.kinds ≤ k → get_or (cleared q).windows k no_window ≡ no_window
   unfolding cleared
-  first_places_past k h = filled_past 5 (map (λ w. w.0) (windows q)) k (omega (arith, length-map (windows q) (λ w. w.0), length_tabulate {A = ℕ × ℕ} (λ j. (first_place q j, last_place q j)) 1 q.kinds))
-
-  pub last_places_past : (k : ℕ) → q.kinds ≤ k → get_or (cleared q).last_places k 0 ≡ 0
-  unfolding cleared
-  last_places_past k h = filled_past 5 (map (λ w. w.1) (windows q)) k (omega (arith, length-map (windows q) (λ w. w.1), length_tabulate {A = ℕ × ℕ} (λ j. (first_place q j, last_place q j)) 1 q.kinds))
+  windows_past k h = none_past (windows q) k (omega (arith, length_tabulate {A = ℕ × ℕ} (λ j. (first_place q j, last_place q j)) 1 q.kinds))
 
   -- gap columns past N in each row, and rows past N
   pub gaps_past : q.kinds ≤ 5 → (k : ℕ) → (q.kinds ≤ k % 5) ⊎ (q.kinds + 1 ≤ k / 5) → get_or (cleared q).gaps k 0 ≡ 0

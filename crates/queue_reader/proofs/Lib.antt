@@ -1,6 +1,2 @@
-pub mod Chains
-pub mod SettingsRead
-pub mod Parts
 pub mod Loops
-pub mod Built
-pub mod Rests
+pub mod Records

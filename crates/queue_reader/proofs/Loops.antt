@@ -1,24 +1,29 @@
 -- The loops over the gap rows and over the windows: their invariants, and what a turn does to them.
 -- Assumes nothing.
-use Prim.Native.Nat.{ℕ, suc, ◌+◌, ◌<◌, ◌≤◌}
+use Prim.Native.Nat.{ℕ, suc, ◌+◌, ◌-◌, ◌<◌, ◌≤◌}
 use mathlib.Core.Path.{◌≡◌, refl, sym, ap, ◌∙◌}
-use mathlib.Core.List.{List, [], ◌∷◌, map}
+use mathlib.Core.List.{List, [], ◌∷◌, ◌++◌, map}
 use native.Mathlib.Omega.{arith}
-use lib.ListN.{length, set, length-set}
-use lib.Seq.{sets, length-sets}
+use lib.ListN.{length, take, drop, set, length-set, length-map}
+use lib.Seq.{sets, length-sets, length-take-le}
 use Rattle.gaps.specs.Gaps.{gap_row}
 use Rattle.refusal.specs.declared.Reason.{Reason}
-use Rattle.number.specs.Readers.{found, Reader, times}
-use Rattle.fields.specs.declared.Outcome.TheVariants.{Next, Refused as Stopped}
+use Rattle.refusal.specs.declared.Reason.TheVariants.{Gap}
+use Rattle.number.specs.Readers.{Found, found, refused, Reader, and_then, times, behind}
+use Rattle.number.proofs.Steps.{found_value, found_next, not_found, not_refused}
+use Rattle.fields.specs.Fields.{field, within}
 use Rattle.fields.specs.Orders.{read_before}
-use Rattle.fields.specs.Answers.{as_outcome}
-use Rattle.fields.proofs.Judged.{as_next, as_stopped}
 use Rattle.fields.proofs.Orders.{kept, times_in_order}
-use Rattle.fields.proofs.Runs.{Listing, all_listed, in_order_lem, before_found}
-use Rattle.fields.proofs.Loops.{Looping, loop_none, loop_more, loop_stop}
-use Rattle.queue.specs.Reading.{window, placed}
-use Rattle.queue_reader.specs.Arrays.{rows_before}
-use Rattle.queue_reader.proofs.Chains.{gap_field}
+use Rattle.fields.proofs.Runs.{Listing, all_listed, in_order_lem, before_found, before_few}
+use Rattle.fields.proofs.Parts.{part_length, sets_front, sets_mid}
+use Rattle.fields.proofs.Loops.{Looping, loop_none, loop_more, loop_stop, loop_done, behind_found, behind_refused}
+use Rattle.queue.specs.declared.Window.{Window}
+use Rattle.queue.specs.Reading.{held, window, placed}
+use Rattle.queue_reader.specs.Arrays.{rows_before, held_window}
+
+-- one gap
+abbrev pub gap_field : Reader ℕ
+gap_field = field 3 (within 0 65536) Gap
 
 -- of a refused row, what was read of it
 pub in_rows : (k : ℕ) (one : Reader ℕ) (s : List ℕ)
@@ -40,47 +45,90 @@ module _ {s : List ℕ} {at kinds : ℕ} {gaps₀ : List ℕ} where
   pub rows_none : Rows s at kinds gaps₀ gaps₀ at 0
   rows_none = record { long = refl; loop = loop_none (times_in_order (times kinds gap_field) (kinds + 1) s at) refl }
 
-  module _ {gaps : List ℕ} {i row : ℕ} (w : Rows s at kinds gaps₀ gaps i row) (from : ℕ) (begins : from ≡ gap_row row) (h : row ≤ kinds) where
-    pub rows_more : (next : ℕ) → as_outcome (times kinds gap_field s i) ≡ Next next
-        → Rows s at kinds gaps₀ (sets gaps from (read_before kinds gap_field s i)) next (row + 1)
+  -- a row's part of the array, and what was stored in it
+  module _ {gaps : List ℕ} {i row : ℕ} (w : Rows s at kinds gaps₀ gaps i row) (from : ℕ) (begins : from ≡ gap_row row) (h : row ≤ kinds)
+      (five : kinds ≤ 5) (room : 30 ≤ length gaps₀) (new : List ℕ) (stored : let part = take (from + kinds - from) (drop from gaps) in new ≡ sets part 0 (read_before (length part) gap_field s i)) where
+    abbrev part : List ℕ
+    part = take (from + kinds - from) (drop from gaps)
+
+    abbrev after : List ℕ
+    after = take from gaps ++ (new ++ drop (from + kinds - from) (drop from gaps))
+
+    back : from + kinds - from ≡ kinds
+    back = omega arith
+
+    fits : from + kinds ≤ length gaps
+    fits = omega (arith, w.long, begins)
+
+    long : length part ≡ kinds
+    long = rw back (part_length gaps from kinds fits)
+
+    after_lem : after ≡ sets gaps from (read_before kinds gap_field s i)
+    after_lem = rw (stored, long, back) (sets_mid from kinds (read_before kinds gap_field s i) gaps (before_few kinds gap_field s i) fits)
+
+    pub rows_more : (next : ℕ) → behind (times (length part) gap_field s i) ≡ found tt next → Rows s at kinds gaps₀ after next (row + 1)
     unfolding placed
     rows_more next e =
-        let (vs, f) = as_next (times kinds gap_field s i) next e in
-        let same : sets gaps (gap_row row) vs ≡ sets gaps from (read_before kinds gap_field s i) = rw (begins, before_found gap_field s kinds i vs next f) in
+        let (vs, f) = behind_found (times kinds gap_field s i) next (rw long at e) in
+        let same : sets gaps (gap_row row) vs ≡ after =
+        ap (sets gaps (gap_row row)) (sym (before_found gap_field s kinds i vs next f))
+        ∙ ap (λ (k : ℕ). sets gaps k (read_before kinds gap_field s i)) (sym begins)
+        ∙ sym after_lem in
         record {
-          long = length-sets gaps from (read_before kinds gap_field s i) ∙ w.long;
+          long = ap length after_lem ∙ length-sets gaps from (read_before kinds gap_field s i) ∙ w.long;
           loop = loop_more w.loop (omega arith) vs next _ f (λ rest. ap (λ (l : List ℕ). placed l (suc row) rest) same);
         }
 
-    pub rows_stop : (r : Reason) → as_outcome (times kinds gap_field s i) ≡ Stopped r
-        → (Stopped r ≡ as_outcome (times (kinds + 1) (times kinds gap_field) s at))
-        × (sets gaps from (read_before kinds gap_field s i) ≡ placed gaps₀ 0 (rows_before (kinds + 1) kinds gap_field s at))
+    pub rows_stop : (r : Reason) → behind (times (length part) gap_field s i) ≡ refused r
+        → (behind (times (kinds + 1) (times kinds gap_field) s at) ≡ refused r)
+        × (after ≡ placed gaps₀ 0 (rows_before (kinds + 1) kinds gap_field s at))
     unfolding placed
-    rows_stop r e = rw begins (loop_stop w.loop (omega arith) r (as_stopped (times kinds gap_field s i) r e))
+    rows_stop r e =
+        let (ends, left) = loop_stop w.loop (omega arith) r (behind_refused (times kinds gap_field s i) r (rw long at e)) in
+        (sym ends, after_lem ∙ rw begins left)
 
--- both arrays with the windows from number k on
-abbrev pub stored : List ℕ × List ℕ → ℕ → List (ℕ × ℕ) → List ℕ × List ℕ
-stored st k ws = (sets st.0 k (map (λ w. w.0) ws), sets st.1 k (map (λ w. w.1) ws))
+-- ---- the windows
 
--- before the window of kind number `kind`, from 0
-pub record Windows (s : List ℕ) (at kinds : ℕ) (first₀ last₀ first last : List ℕ) (i kind : ℕ) : Type 0 where
-  pub long_first : length first ≡ length first₀
-  pub long_last : length last ≡ length last₀
-  pub loop : Looping (in_order_lem (λ _. window) kept s) stored kinds (times kinds window s at)
-      (stored (first₀, last₀) 0 (read_before kinds window s at)) tt (first, last) i kind
+held_found : (f : Found (ℕ × ℕ)) (x : Window) (n : ℕ) → and_then f (λ w i. found (held w) i) ≡ found x n → (w : ℕ × ℕ) × (f ≡ found w n) × (x ≡ held w)
+held_found (found w m) x n e = (w, ap (found w) (found_next (held w) x m n e), sym (found_value (held w) x m n e))
+held_found (refused r) x n e = not_found r x n e
 
-module _ {s : List ℕ} {at kinds : ℕ} {first₀ last₀ : List ℕ} where
-  pub windows_none : Windows s at kinds first₀ last₀ first₀ last₀ at 0
-  windows_none = record { long_first = refl; long_last = refl; loop = loop_none (times_in_order window kinds s at) refl }
+held_refused : (f : Found (ℕ × ℕ)) (r : Reason) → and_then f (λ w i. found (held w) i) ≡ refused r → f ≡ refused r
+held_refused (found w n) r e = not_refused r (held w) n e
+held_refused (refused q) r e = cc
 
-  pub windows_more : {first last : List ℕ} {i kind : ℕ} → Windows s at kinds first₀ last₀ first last i kind → (a b next : ℕ) → kind < kinds
-      → window s i ≡ found (a, b) next → Windows s at kinds first₀ last₀ (set first kind a) (set last kind b) next (kind + 1)
-  windows_more {first} {last} {i} {kind} w a b next h e = record {
-    long_first = length-set first kind a ∙ w.long_first;
-    long_last = length-set last kind b ∙ w.long_last;
-    loop = loop_more w.loop h (a, b) next (set first kind a, set last kind b) e (λ rest. refl);
-  }
+-- before window k, from 0
+pub record Windows (s : List ℕ) (at : ℕ) (out₀ out : List Window) (i k : ℕ) : Type 0 where
+  pub long : length out ≡ length out₀
+  pub loop : Looping (in_order_lem (λ _. window) kept s) (λ out k ws. sets out k (map held ws)) (length out₀) (times (length out₀) window s at)
+      (sets out₀ 0 (map held (read_before (length out₀) window s at))) tt out i k
 
--- where both arrays hold what they should, each does
-pub each : {first last first' last' : List ℕ} → ◌≡◌ {A = List ℕ × List ℕ} (first, last) (first', last') → (first ≡ first') × (last ≡ last')
-each e = (ap (λ (st : List ℕ × List ℕ). st.0) e, ap (λ (st : List ℕ × List ℕ). st.1) e)
+module _ {s : List ℕ} {at : ℕ} {out₀ : List Window} where
+  pub windows_none : Windows s at out₀ out₀ at 0
+  windows_none = record { long = refl; loop = loop_none (times_in_order window (length out₀) s at) refl }
+
+  module _ {out : List Window} {i k : ℕ} (w : Windows s at out₀ out i k) where
+    pub windows_more : (x : Window) (next : ℕ) → k < length out₀ → held_window s i ≡ found x next → Windows s at out₀ (set out k x) next (k + 1)
+    windows_more x next h e =
+        let (v, f, is) = held_found (window s i) x next e in
+        record { long = length-set out k x ∙ w.long; loop = loop_more w.loop h v next (set out k x) f (λ rest. ap (λ (y : Window). sets (set out k y) (suc k) (map held rest)) (sym is)) }
+
+    pub windows_stop : k < length out₀ → (r : Reason) → held_window s i ≡ refused r
+        → (behind (times (length out₀) window s at) ≡ refused r) × (out ≡ sets out₀ 0 (map held (read_before (length out₀) window s at)))
+    windows_stop h r e = let (ends, left) = loop_stop w.loop h r (held_refused (window s i) r e) in (sym ends, left)
+
+    pub windows_done : length out₀ ≤ k
+        → (behind (times (length out₀) window s at) ≡ found tt i) × (out ≡ sets out₀ 0 (map held (read_before (length out₀) window s at)))
+    windows_done h = let (ends, left) = loop_done w.loop h in (sym ends, left)
+
+-- windows that were stored in the first n places of an array
+module _ (n : ℕ) (l : List Window) (room : n ≤ length l) (s : List ℕ) (i : ℕ) where
+  pub windows_found : (j : ℕ) → behind (times (length (take n l)) window s i) ≡ found tt j → (ws : List (ℕ × ℕ)) × (times n window s i ≡ found ws j)
+  windows_found j e = behind_found (times n window s i) j (rw (← length-take-le n l room) e)
+
+  pub windows_stored : (out : List Window) → out ≡ sets (take n l) 0 (map held (read_before (length (take n l)) window s i))
+      → (ws : List (ℕ × ℕ)) (j : ℕ) → times n window s i ≡ found ws j → out ++ drop n l ≡ sets l 0 (map held ws)
+  windows_stored out e ws j f =
+      let all = read_before n window s i in
+      rw (e, length-take-le n l room) (sets_front n (map held all) l (omega (arith, before_few n window s i, length-map all held)) room)
+      ∙ ap (λ (ws : List (ℕ × ℕ)). sets l 0 (map held ws)) (before_found window s n i ws j f)

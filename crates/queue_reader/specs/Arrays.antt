@@ -1,16 +1,17 @@
--- What the reader's parts leave in their arrays, refused or not.
+-- What reading the gap rows leaves in their array, refused or not, and windows as their array holds them.
 use Rattle.std.specs.Prelude.{ℕ, zero, suc, List, [], ◌∷◌}
-use Rattle.refusal.specs.declared.Reason.TheVariants.{Pupils}
-use Rattle.number.specs.Readers.{Reader, times}
-use Rattle.fields.specs.Fields.{field, within}
+use Rattle.number.specs.Readers.{Reader, ◌>>=◌, give, times}
 use Rattle.fields.specs.Orders.{thereafter, read_before}
-use Rattle.queue.specs.Reading.{window}
+use Rattle.queue.specs.declared.Window.{Window}
+use Rattle.queue.specs.Reading.{held, window}
 
 -- of n rows of k numbers, those before the first refusal: the refused row ends where its refused number stands
 unfoldable pub rows_before : ℕ → ℕ → Reader ℕ → List ℕ → ℕ → List (List ℕ)
 rows_before zero k one s at = []
 rows_before (suc n) k one s at = read_before k one s at ∷ thereafter (times k one s at) (λ _ i. rows_before n k one s i)
 
--- of a_1 b_1 .. a_N b_N behind the weights, those before the first refusal: none where a weight is refused
-abbrev pub windows_before : ℕ → List ℕ → ℕ → List (ℕ × ℕ)
-windows_before n s at = thereafter (times n (field 3 (within 0 1000) Pupils) s at) (λ _ i. read_before n window s i)
+-- a window as a record holds it
+abbrev pub held_window : Reader Window
+held_window = do
+  w ← window
+  give (held w)

@@ -1,30 +1,29 @@
 // The queue message's writer.
-#![tactic(auto)]
+#![tactic(auto, using(fields_writer::proofs::Writing::writing))]
 
-ghost use Rattle.std.specs.Prelude.{◌≡◌, ◌+◌, ◌≤◌, length};
+ghost use Rattle.std.specs.Prelude.{◌≡◌, ◌≤◌, length};
 ghost use mathlib.Core.List.{flat_map};
 ghost use Rattle.std.proofs.lemmas.List.Edits.{sets};
-ghost use Rattle.fields.specs.Fields.{within, all, part, encode_all};
-ghost use Rattle.queue.specs.Record.{window_ok};
-ghost use Rattle.queue_writer.specs.Arrays.{gap_rows, window_pairs};
+ghost use Rattle.number.specs.Outputs.{HasRoom, Writes};
+ghost use Rattle.fields.specs.Fields.{within, all, encode_all};
+ghost use Rattle.queue.specs.Record.{pair_of, window_ok, window_pairs};
+ghost use Rattle.queue_writer.specs.Arrays.{gap_rows};
 ghost use Rattle.queue.specs.Writing.{encode_window, settings_bytes, head_bytes, job_bytes, message, judge_settings, judge_tables, judge_head, judge_jobs, judge, write_queue, written_queue};
 ghost use Rattle.queue.specs.Writer.{WritesQueue};
 
-use queue::Queue;
-use refusal::{Reason, Verdict, Written};
+use fields::{Held, check, is_within};
+use number::Output;
+use queue::{Queue, Window};
+use refusal::Reason;
 
-// Whether `count` of the values, from `from` on, are all at most `most`.
-fn all_at_most(values: &[u32], from: usize, count: usize, most: u64) -> bool
-    requires { from + count ≤ length values.now }
-    ensures { result ≡ all (within 0 most) (part from count values.now) }
+// Whether the values are all from `low` to `high`.
+fn all_within<T: Held>(values: &[T], low: u64, high: u64) -> bool
+    ensures { result ≡ all (within low high) (T.numbers values.now) }
 {
-    let mut k: usize = 0;
-    while k < count {
-        let v = values[from + k];
-        if !fields::is_within(v as u64, 0, most) {
+    for value in values {
+        if !is_within(value.number(), low, high) {
             return false;
         }
-        k = k + 1;
     }
     true
 }
@@ -34,235 +33,162 @@ fn judge_gaps(gaps: &[u32], kinds: usize) -> bool
     requires { (kinds ≤ 5) × (30 ≤ length gaps.now) }
     ensures { result ≡ all (all (within 0 65536)) (gap_rows gaps.now kinds) }
 {
-    let mut row: usize = 0;
-    while row <= kinds {
-        if !all_at_most(gaps, gaps::row_start(row), kinds, 65536) {
+    for row in 0..=kinds {
+        let start = gaps::row_start(row);
+        if !all_within(&gaps[start..start + kinds], 0, 65536) {
             return false;
         }
-        row = row + 1;
     }
     true
 }
 
 // Whether the allowed places of every kind are places, in order.
-fn judge_windows(first: &[u8], last: &[u8], kinds: usize) -> bool
-    requires { (kinds ≤ length first.now) × (kinds ≤ length last.now) }
-    ensures { result ≡ all window_ok (window_pairs first.now last.now kinds) }
+fn judge_windows(windows: &[Window]) -> bool
+    ensures { result ≡ all window_ok (window_pairs windows.now) }
 {
-    let mut kind: usize = 0;
-    while kind < kinds {
-        if !queue::is_window(wide(first[kind]), wide(last[kind])) {
-            return false;
-        }
-        kind = kind + 1;
-    }
-    true
-}
-
-// Whether `count` jobs are of kinds from 1 to `kinds`.
-fn judge_kinds(jobs: &[u8], count: usize, kinds: u64) -> bool
-    requires { count ≤ length jobs.now }
-    ensures { result ≡ all (within 1 kinds) (part 0 count jobs.now) }
-{
-    let mut k: usize = 0;
-    while k < count {
-        if !fields::is_within(wide(jobs[k]), 1, kinds) {
-            return false;
-        }
-        k = k + 1;
-    }
-    true
-}
-
-// A byte as the tests take it.
-fn wide(x: u8) -> u64
-    ensures { result ≡ x }
-{
-    x as u64
+    windows.iter().all(|window| queue::is_window(u64::from(window.first), u64::from(window.last)))
 }
 
 // Refusals 5 to 8.
-fn judge_settings(queue: Queue) -> Verdict
-    ensures { result ≡ judge_settings queue }
+#[tactic(auto, unfolding(queue::specs::Writing::judge_settings))]
+fn judge_settings(queue: &Queue) -> Result<(), Reason>
+    ensures { result ≡ judge_settings queue.now }
 {
-    if !fields::is_within(queue.kinds as u64, 1, 5) {
-        return Verdict::Refused(Reason::Kinds);
-    }
-    if !fields::is_within(queue.goal as u64, 1, 2) {
-        return Verdict::Refused(Reason::Goal);
-    }
-    if !fields::is_within(queue.max_shift as u64, 0, 60) {
-        return Verdict::Refused(Reason::Shift);
-    }
-    if !fields::is_within(queue.start as u64, 0, queue.kinds as u64) {
-        return Verdict::Refused(Reason::Start);
-    }
-    Verdict::Accepted
+    let kinds = u64::from(queue.kinds);
+    check(is_within(kinds, 1, 5), Reason::Kinds)?;
+    check(is_within(u64::from(queue.goal), 1, 2), Reason::Goal)?;
+    check(is_within(u64::from(queue.max_shift), 0, 60), Reason::Shift)?;
+    check(is_within(u64::from(queue.start), 0, kinds), Reason::Start)
 }
 
 // Refusals 9 to 11.
-fn judge_tables(queue: Queue) -> Verdict
-    requires { queue.kinds ≤ 5 }
-    ensures { result ≡ judge_tables queue }
+#[tactic(auto, unfolding(queue::specs::Writing::judge_tables))]
+fn judge_tables(queue: &Queue) -> Result<(), Reason>
+    requires { queue.now.kinds ≤ 5 }
+    ensures { result ≡ judge_tables queue.now }
 {
     let kinds = queue.kinds as usize;
-    let gaps = queue.gaps;
-    if !judge_gaps(&gaps, kinds) {
-        return Verdict::Refused(Reason::Gap);
-    }
-    let weights = queue.weights;
-    if !all_at_most(&weights, 0, kinds, 1000) {
-        return Verdict::Refused(Reason::Pupils);
-    }
-    let first = queue.first_places;
-    let last = queue.last_places;
-    if !judge_windows(&first, &last, kinds) {
-        return Verdict::Refused(Reason::Places);
-    }
-    Verdict::Accepted
+    let windows = &queue.windows[..kinds];
+    check(judge_gaps(&queue.gaps, kinds), Reason::Gap)?;
+    check(all_within(&queue.weights[..kinds], 0, 1000), Reason::Pupils)?;
+    check(judge_windows(windows), Reason::Places)
 }
 
 // From the number of kinds to the allowed places.
-fn judge_head(queue: Queue) -> Verdict
-    ensures { result ≡ judge_head queue }
+#[tactic(auto, unfolding(queue::specs::Writing::judge_head))]
+fn judge_head(queue: &Queue) -> Result<(), Reason>
+    ensures { result ≡ judge_head queue.now }
 {
-    match judge_settings(queue) {
-        Verdict::Refused(why) => Verdict::Refused(why),
-        Verdict::Accepted => judge_tables(queue),
-    }
+    judge_settings(queue)?;
+    judge_tables(queue)
 }
 
 // Refusals 12 and 13.
-fn judge_jobs(queue: Queue) -> Verdict
-    ensures { result ≡ judge_jobs queue }
+#[tactic(auto, unfolding(queue::specs::Writing::judge_jobs))]
+fn judge_jobs(queue: &Queue) -> Result<(), Reason>
+    ensures { result ≡ judge_jobs queue.now }
 {
-    if !fields::is_within(queue.jobs as u64, 0, 60) {
-        return Verdict::Refused(Reason::Jobs);
-    }
-    let jobs = queue.jobs as usize;
-    let job_kinds = queue.job_kinds;
-    if !judge_kinds(&job_kinds, jobs, queue.kinds as u64) {
-        return Verdict::Refused(Reason::JobKind);
-    }
-    Verdict::Accepted
+    check(is_within(u64::from(queue.jobs), 0, 60), Reason::Jobs)?;
+    let jobs = &queue.job_kinds[..queue.jobs as usize];
+    check(all_within(jobs, 1, u64::from(queue.kinds)), Reason::JobKind)
 }
 
 // The record judged in message order.
-fn judge_queue(queue: Queue) -> Verdict
-    ensures { result ≡ judge queue }
+#[tactic(auto, unfolding(queue::specs::Writing::judge))]
+fn judge_queue(queue: &Queue) -> Result<(), Reason>
+    ensures { result ≡ judge queue.now }
 {
-    match judge_head(queue) {
-        Verdict::Refused(why) => Verdict::Refused(why),
-        Verdict::Accepted => judge_jobs(queue),
-    }
+    judge_head(queue)?;
+    judge_jobs(queue)
 }
 
-// Each writer below returns the position behind what it wrote.
-
 // The numbers before the gaps.
-fn write_settings(buffer: &mut [u8], at: usize, queue: Queue) -> usize
-    requires { at + length (settings_bytes queue) ≤ length buffer.old }
-    ensures value { result ≡ at + length (settings_bytes queue) }
-    ensures buffer_after { buffer.new ≡ sets buffer.old at (settings_bytes queue) }
+#[tactic(auto, using(crate::proofs::Records::four_written))]
+fn write_settings(out: &mut Output, queue: &Queue)
+    requires { HasRoom (settings_bytes queue.now) out.old }
+    ensures { Writes (settings_bytes queue.now) out.old out.new }
 {
-    let a = number::write_number(buffer, at, queue.kinds as u64);
-    let b = number::write_number(buffer, a, queue.goal as u64);
-    let c = number::write_number(buffer, b, queue.max_shift as u64);
-    number::write_number(buffer, c, queue.start as u64)
+    let settings = [queue.kinds, queue.goal, queue.max_shift, queue.start];
+    fields_writer::write_run(out, &settings);
 }
 
 // The gap rows.
-fn write_gaps(buffer: &mut [u8], at: usize, gaps: &[u32], kinds: usize) -> usize
-    requires { (kinds ≤ 5) × (30 ≤ length gaps.now) × (at + length (flat_map encode_all (gap_rows gaps.now kinds)) ≤ length buffer.old) }
-    ensures value { result ≡ at + length (flat_map encode_all (gap_rows gaps.now kinds)) }
-    ensures buffer_after { buffer.new ≡ sets buffer.old at (flat_map encode_all (gap_rows gaps.now kinds)) }
+fn write_gaps(out: &mut Output, gaps: &[u32], kinds: usize)
+    requires { (kinds ≤ 5) × (30 ≤ length gaps.now) × HasRoom (flat_map encode_all (gap_rows gaps.now kinds)) out.old }
+    ensures { Writes (flat_map encode_all (gap_rows gaps.now kinds)) out.old out.new }
 {
-    let mut i = at;
-    let mut row: usize = 0;
-    while row <= kinds {
-        i = fields_writer::write_run(buffer, i, gaps, gaps::row_start(row), kinds);
-        row = row + 1;
+    for row in 0..=kinds {
+        let start = gaps::row_start(row);
+        fields_writer::write_run(out, &gaps[start..start + kinds]);
     }
-    i
 }
 
 // The allowed places of one kind.
-fn write_window(buffer: &mut [u8], at: usize, first: u8, last: u8) -> usize
-    requires { at + length (encode_window (first, last)) ≤ length buffer.old }
-    ensures value { result ≡ at + length (encode_window (first, last)) }
-    ensures buffer_after { buffer.new ≡ sets buffer.old at (encode_window (first, last)) }
+fn write_window(out: &mut Output, window: Window)
+    requires { HasRoom (encode_window (pair_of window)) out.old }
+    ensures { Writes (encode_window (pair_of window)) out.old out.new }
 {
-    let a = number::write_number(buffer, at, first as u64);
-    number::write_number(buffer, a, last as u64)
+    out.number(u64::from(window.first));
+    out.number(u64::from(window.last));
 }
 
 // The allowed places of every kind.
-fn write_windows(buffer: &mut [u8], at: usize, first: &[u8], last: &[u8], kinds: usize) -> usize
-    requires { (kinds ≤ length first.now) × (kinds ≤ length last.now) × (at + length (flat_map encode_window (window_pairs first.now last.now kinds)) ≤ length buffer.old) }
-    ensures value { result ≡ at + length (flat_map encode_window (window_pairs first.now last.now kinds)) }
-    ensures buffer_after { buffer.new ≡ sets buffer.old at (flat_map encode_window (window_pairs first.now last.now kinds)) }
+fn write_windows(out: &mut Output, windows: &[Window])
+    requires { HasRoom (flat_map encode_window (window_pairs windows.now)) out.old }
+    ensures { Writes (flat_map encode_window (window_pairs windows.now)) out.old out.new }
 {
-    let mut i = at;
-    let mut kind: usize = 0;
-    while kind < kinds {
-        i = write_window(buffer, i, first[kind], last[kind]);
-        kind = kind + 1;
+    for window in windows {
+        write_window(out, *window);
     }
-    i
 }
 
 // From the number of kinds to the allowed places.
-fn write_head(buffer: &mut [u8], at: usize, queue: Queue) -> usize
-    requires { (queue.kinds ≤ 5) × (at + length (head_bytes queue) ≤ length buffer.old) }
-    ensures value { result ≡ at + length (head_bytes queue) }
-    ensures buffer_after { buffer.new ≡ sets buffer.old at (head_bytes queue) }
+#[tactic(auto, using(fields_writer::proofs::Writing::writing, crate::proofs::Records::head_written))]
+fn write_head(out: &mut Output, queue: &Queue)
+    requires { (queue.now.kinds ≤ 5) × HasRoom (head_bytes queue.now) out.old }
+    ensures { Writes (head_bytes queue.now) out.old out.new }
 {
     let kinds = queue.kinds as usize;
-    let gaps = queue.gaps;
-    let weights = queue.weights;
-    let first = queue.first_places;
-    let last = queue.last_places;
-    let a = write_settings(buffer, at, queue);
-    let b = write_gaps(buffer, a, &gaps, kinds);
-    let c = fields_writer::write_run(buffer, b, &weights, 0, kinds);
-    write_windows(buffer, c, &first, &last, kinds)
+    let windows = &queue.windows[..kinds];
+    write_settings(out, queue);
+    write_gaps(out, &queue.gaps, kinds);
+    fields_writer::write_run(out, &queue.weights[..kinds]);
+    write_windows(out, windows);
 }
 
 // The number of jobs and their kinds.
-fn write_jobs(buffer: &mut [u8], at: usize, queue: Queue) -> usize
-    requires { (queue.jobs ≤ 60) × (at + length (job_bytes queue) ≤ length buffer.old) }
-    ensures value { result ≡ at + length (job_bytes queue) }
-    ensures buffer_after { buffer.new ≡ sets buffer.old at (job_bytes queue) }
+#[tactic(auto, using(crate::proofs::Records::jobs_written))]
+fn write_jobs(out: &mut Output, queue: &Queue)
+    requires { (queue.now.jobs ≤ 60) × HasRoom (job_bytes queue.now) out.old }
+    ensures { Writes (job_bytes queue.now) out.old out.new }
 {
-    let job_kinds = queue.job_kinds;
-    fields_writer::write_counted(buffer, at, &job_kinds, queue.jobs)
+    fields_writer::write_counted(out, &queue.job_kinds[..queue.jobs as usize]);
 }
 
-// The message of a record that was judged.
-fn write_message(buffer: &mut [u8], queue: Queue) -> usize
-    requires { (queue.kinds ≤ 5) × (queue.jobs ≤ 60) × (length (message queue) ≤ length buffer.old) }
-    ensures value { result ≡ length (message queue) }
-    ensures buffer_after { buffer.new ≡ sets buffer.old 0 (message queue) }
+// The message of a record that was judged; returns the number of its bytes.
+#[tactic(auto, using(fields_writer::proofs::Writing::writing), unfolding(queue::specs::Writing::message))]
+fn write_message(buffer: &mut [u8], queue: &Queue) -> usize
+    requires { (queue.now.kinds ≤ 5) × (queue.now.jobs ≤ 60) × (length (message queue.now) ≤ length buffer.old) }
+    ensures value { result ≡ length (message queue.now) }
+    ensures buffer_after { buffer.new ≡ sets buffer.old 0 (message queue.now) }
 {
-    let a = fields_writer::write_opening(buffer, b"QS");
-    let b = number::write_number(buffer, a, 1);
-    let c = write_head(buffer, b, queue);
-    write_jobs(buffer, c, queue)
+    let mut out = Output { buffer, at: 0 };
+    fields_writer::write_opening(&mut out, b"QS");
+    out.number(1);
+    write_head(&mut out, queue);
+    write_jobs(&mut out, queue);
+    out.at
 }
 
 // Writes a queue message: the number of its bytes, or the one refusal.
-pub fn write_queue(buffer: &mut [u8], queue: Queue) -> Written
+pub fn write_queue(buffer: &mut [u8], queue: Queue) -> Result<usize, Reason>
     ensures value { result ≡ write_queue queue (length buffer.old) }
     ensures buffer_after { buffer.new ≡ written_queue queue buffer.old }
     ensures writes_queue { WritesQueue queue buffer.old buffer.new result }
 {
-    match judge_queue(queue) {
-        Verdict::Refused(why) => Written::Refused(why),
-        Verdict::Accepted => {
-            if buffer.len() < 178 {
-                return Written::Refused(Reason::Buffer);
-            }
-            Written::Bytes(write_message(buffer, queue))
-        }
+    judge_queue(&queue)?;
+    if buffer.len() < 178 {
+        return Err(Reason::Buffer);
     }
+    Ok(write_message(buffer, &queue))
 }

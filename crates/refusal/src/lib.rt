@@ -1,12 +1,14 @@
 // The refusals of documents 01 and 02: the one vocabulary of reasons, their numbers, and the group and word that the program prints.
 #![tactic(auto)]
 
-ghost use Rattle.std.specs.Prelude.{◌≤◌, ◌≡◌, length};
+ghost use Rattle.std.specs.Prelude.{◌≡◌};
 ghost use Rattle.refusal.specs.Reasons.{reason_number, reason_group, number_group};
-ghost use Rattle.refusal.specs.Words.{word_of};
+ghost use Rattle.refusal.specs.Words.{word};
+
+use std::fmt;
 
 // Why a call is refused: one case for each row of 01's table of checks, in its order, 1 to 18, then what 02 adds.
-#[derive(Clone, Copy)]
+#[derive(Clone, Copy, Debug, PartialEq, Eq)]
 pub enum Reason {
     // 1: the first two bytes are missing or other.
     Opening,
@@ -51,7 +53,7 @@ pub enum Reason {
 }
 
 // The word that the program prints beside a refusal's number.
-#[derive(Clone, Copy)]
+#[derive(Clone, Copy, Debug, PartialEq, Eq)]
 pub enum Group {
     Message,
     Contents,
@@ -61,123 +63,91 @@ pub enum Group {
     Unprinted,
 }
 
-// A group's word: its first `length` letters, then 0.
-#[derive(Clone, Copy)]
-pub struct Word {
-    pub letters: [u8; 8],
-    pub length: usize,
-}
-
-// How reading a message ends.
-#[derive(Clone, Copy)]
-pub enum Verdict {
-    Accepted,
-    Refused(Reason),
-}
-
-// How writing a message ends.
-#[derive(Clone, Copy)]
-pub enum Written {
-    // The number of its bytes.
-    Bytes(usize),
-    Refused(Reason),
-}
-
-// How planning ends.
-#[derive(Clone, Copy)]
-pub enum Answer {
-    // The number of the plan's bytes.
-    Planned(usize),
-    Refused(Reason),
-}
-
 // What a table must have and can be asked to hold: 01's N times P, and 02's largest kept count that the counts of the kinds allow.
-#[derive(Clone, Copy)]
+#[derive(Clone, Copy, Debug, PartialEq, Eq)]
 pub struct Sizes {
     pub entries: u64,
     pub most_feasible: u64,
 }
 
-// How asking for a table's size ends.
-#[derive(Clone, Copy)]
-pub enum TableSize {
-    Known(Sizes),
-    Refused(Reason),
-}
+impl Reason {
+    // The number of a refusal.
+    pub fn number(self) -> u64
+        ensures { result ≡ reason_number self }
+    {
+        match self {
+            Reason::Opening => 1,
+            Reason::Ends => 2,
+            Reason::Groups => 3,
+            Reason::Edition => 4,
+            Reason::Kinds => 5,
+            Reason::Goal => 6,
+            Reason::Shift => 7,
+            Reason::Start => 8,
+            Reason::Gap => 9,
+            Reason::Pupils => 10,
+            Reason::Places => 11,
+            Reason::Jobs => 12,
+            Reason::JobKind => 13,
+            Reason::LeftOver => 14,
+            Reason::Buffer => 15,
+            Reason::Table(_) => 16,
+            Reason::NoOrder => 17,
+            Reason::Job => 18,
+            Reason::Uncovered => 19,
+            Reason::SecondStart => 20,
+        }
+    }
 
-// The number of a refusal.
-pub fn reason_number(reason: Reason) -> u64
-    ensures { result ≡ reason_number reason }
-{
-    match reason {
-        Reason::Opening => 1,
-        Reason::Ends => 2,
-        Reason::Groups => 3,
-        Reason::Edition => 4,
-        Reason::Kinds => 5,
-        Reason::Goal => 6,
-        Reason::Shift => 7,
-        Reason::Start => 8,
-        Reason::Gap => 9,
-        Reason::Pupils => 10,
-        Reason::Places => 11,
-        Reason::Jobs => 12,
-        Reason::JobKind => 13,
-        Reason::LeftOver => 14,
-        Reason::Buffer => 15,
-        Reason::Table(_) => 16,
-        Reason::NoOrder => 17,
-        Reason::Job => 18,
-        Reason::Uncovered => 19,
-        Reason::SecondStart => 20,
+    // The group of a refusal.
+    pub fn group(self) -> Group
+        ensures { result ≡ reason_group self }
+    {
+        Group::from(self.number())
     }
 }
 
 // The group of a refusal's number.
-pub fn number_group(number: u64) -> Group
-    ensures { result ≡ number_group number }
-{
-    match number {
-        1..=4 | 14 => Group::Message,
-        5..=13 => Group::Contents,
-        15..=16 => Group::Room,
-        17 => Group::Order,
-        _ => Group::Unprinted,
+impl From<u64> for Group {
+    ghost from_gives = { λ n g. g ≡ number_group n };
+
+    fn from(number: u64) -> Group {
+        match number {
+            1..=4 | 14 => Group::Message,
+            5..=13 => Group::Contents,
+            15..=16 => Group::Room,
+            17 => Group::Order,
+            _ => Group::Unprinted,
+        }
     }
 }
 
-// The group of a refusal.
-pub fn reason_group(reason: Reason) -> Group
-    ensures { result ≡ reason_group reason }
-{
-    number_group(reason_number(reason))
+impl Group {
+    // The word of a group.
+    pub fn word(self) -> &'static str
+        ensures { result.now ≡ word self }
+    {
+        match self {
+            Group::Message => "message",
+            Group::Contents => "contents",
+            Group::Room => "room",
+            Group::Order => "order",
+            Group::Unprinted => "",
+        }
+    }
 }
 
-// The word of a group.
-pub fn group_word(group: Group) -> Word
-    ensures value { result ≡ word_of group }
-    ensures length_in_bounds { result.length ≤ length result.letters }
-{
-    match group {
-        Group::Message => Word {
-            letters: *b"message\0",
-            length: 7,
-        },
-        Group::Contents => Word {
-            letters: *b"contents",
-            length: 8,
-        },
-        Group::Room => Word {
-            letters: *b"room\0\0\0\0",
-            length: 4,
-        },
-        Group::Order => Word {
-            letters: *b"order\0\0\0",
-            length: 5,
-        },
-        Group::Unprinted => Word {
-            letters: [0; 8],
-            length: 0,
-        },
+impl fmt::Display for Group {
+    fn fmt<W: fmt::Write>(&self, f: &mut fmt::Formatter<W>) -> fmt::Result {
+        f.write_str(self.word())
+    }
+}
+
+// A refusal's number and the word of its group, as the program prints them.
+impl fmt::Display for Reason {
+    fn fmt<W: fmt::Write>(&self, f: &mut fmt::Formatter<W>) -> fmt::Result {
+        let number = self.number();
+        let group = self.group();
+        write!(f, "{number} {group}")
     }
 }

@@ -1,4 +1,4 @@
-pub mod Looking
 pub mod Walking
+pub mod Looking
 pub mod Start
 pub mod Following

@@ -11,15 +11,15 @@ use Rattle.sequencing.specs.States.{complete, K, IsLeft, jobs_of, by_hand_in}
 use Rattle.sequencing.specs.Least.{least, arg_least}
 use Rattle.sequencing.specs.Recursion.{value, choice}
 use Rattle.sequencing.specs.Following.{walk_by, by_hand_in_upto}
-use Rattle.sequencing.specs.Entries.{stored}
 use Rattle.sequencing.proofs.Equations.{cost_some_left}
 use Rattle.sequencing.proofs.Fills.{Fills}
 use Rattle.sequencing.proofs.JobsLeft.{complete_left}
 use Rattle.sequencing.proofs.Least.{smallest}
 use Rattle.sequencing.proofs.Recursion.{value_some, choice_some, walk_by_lem}
 use Rattle.sequencing.proofs.Vectors.{complete_sum, at_in}
+use Rattle.std.specs.Prelude.{Some}
 use Rattle.units.specs.Costs.{cost_in}
-use Rattle.next_states.specs.declared.Least.{Least}
+use Rattle.next_states.specs.NextStates.{least_answer}
 use Rattle.solver.specs.Following.{Takes}
 
 pub some_cost : (r : Option ℕ) → (r ≡ none → ⊥) → (c : ℕ) × (r ≡ some c)
@@ -27,12 +27,6 @@ some_cost none h = absurd (h refl)
 some_cost (some c) h = (c, refl)
 
 module _ (P : Problem) where
-  -- the recursion's choice from (L; k) on as it is answered: its cost in the goal's own unit, and its kind, 0 where there is none
-  pub record Chosen (goal L : ℕ) (k : List ℕ) (r : Least) : Type 0 where
-    pub cost_is : r.cost ≡ cost_in goal (stored (least (choice P L k) P.N))
-    pub kind_is : (c : ℕ) → least (choice P L k) P.N ≡ some c → r.kind ≡ arg_least (choice P L k) P.N
-    pub no_kind : least (choice P L k) P.N ≡ none → r.kind ≡ 0
-
   -- the recursion's next kind, where it finds something
   pub takes_next : (L : ℕ) (k : List ℕ) (c : ℕ) → least (choice P L k) P.N ≡ some c → Takes P k (arg_least (choice P L k) P.N)
   takes_next L k c e =
@@ -50,6 +44,11 @@ module _ (P : Problem) where
   found_after k x t h =
       let (c, e) = some_cost (value P x (complete k x)) t.found in
       (c, sym (cost_some_left P x (complete k x) h) ∙ (value_some P x (complete k x) c e).2)
+
+  -- and the answer by the table is its kind
+  pub next_found : (goal : ℕ) (k : List ℕ) (x : ℕ) → Takes P k x → 0 < sum (complete k x)
+      → (c : ℕ) × (least_answer goal (arg_least (choice P x (complete k x)) P.N) (least (choice P x (complete k x)) P.N) ≡ Some (record { cost = cost_in goal c; kind = arg_least (choice P x (complete k x)) P.N }))
+  next_found goal k x t h = let (c, e) = found_after k x t h in (c, rw e)
 
   module _ (m : List ℕ) where
     -- the jobs of such a walk: the first, and those of the walk from there

@@ -3,17 +3,15 @@ use Rattle.std.specs.Prelude.{List, ◌≡◌, ℕ, ◌≤◌, ◌<◌}
 use Rattle.std.proofs.Math.Option.{none}
 use Rattle.fields.specs.Lists.{filled}
 use Rattle.queue.specs.declared.Queue.{Queue}
-use Rattle.queue.specs.Record.{Valid}
-use Rattle.sequencing.specs.Lists.{at, sum}
+use Rattle.sequencing.specs.Lists.{at}
 use Rattle.sequencing.specs.Problem.{Problem}
-use Rattle.sequencing.specs.States.{complete}
+use Rattle.sequencing.specs.States.{complete, K}
 use Rattle.sequencing.specs.Recursion.{value}
 use Rattle.sequencing.specs.Following.{walk_by, by_hand_in_upto}
 use Rattle.sequencing.specs.Entries.{k_at}
 use Rattle.problem.specs.OfQueue.{problem}
-use Rattle.jobs_left.specs.Steps.{LeftAt}
-use Rattle.layout.specs.declared.Layout.{Layout}
-use Rattle.layout.specs.Prepared.{Prepared}
+use Rattle.jobs_left.specs.declared.JobsLeft.{JobsLeft}
+use Rattle.jobs_left.specs.Steps.{LeftOf}
 
 -- a kind that can be taken next with k left: a job of it is left, and the state then is kept
 pub record Takes (P : Problem) (k : List ℕ) (x : ℕ) : Type 0 where
@@ -22,14 +20,11 @@ pub record Takes (P : Problem) (k : List ℕ) (x : ℕ) : Type 0 where
   pub some_left : 0 < at k x
   pub found : value P x (complete k x) ≡ none → ⊥
 
--- a share of the queue: what is left where it begins, up to which job of each kind, so many places, and the first kind, from which they can be filled
-pub record Share (q : Queue) (l : Layout) (from upto : List ℕ) (index first places : ℕ) : Type 0 where
-  pub valid : Valid q
-  pub prepared : Prepared q l
-  pub left_is : LeftAt (problem q) from index
-  pub within : (j : ℕ) → 1 ≤ j → j ≤ q.kinds → (at from j ≤ at upto j) × (at upto j ≤ at l.counts j)
-  pub all : places ≡ sum (k_at (problem q) index)
-  pub takes : 0 < places → Takes (problem q) (k_at (problem q) index) first
+-- a share of the queue: what is left where it begins, up to which job of each kind, and the first kind, from which its places can be filled
+pub record Share (q : Queue) (from : JobsLeft) (upto : List ℕ) (first : ℕ) : Type 0 where
+  pub left_of : LeftOf (problem q) from
+  pub within : (j : ℕ) → 1 ≤ j → j ≤ q.kinds → (at from.left j ≤ at upto j) × (at upto j ≤ K (problem q) j)
+  pub takes : 0 < from.jobs → Takes (problem q) (k_at (problem q) from.index) first
 
 -- its order
 abbrev pub Followed : (q : Queue) (upto : List ℕ) (index first places : ℕ) (order : List ℕ) → Type 0

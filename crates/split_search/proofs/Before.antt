@@ -1,38 +1,35 @@
--- The loop that compares counts: they are equal up to where it stands.
+-- Whether counts come before others: it is std's order on lists, and of arrays that end alike the first kinds decide.
 -- Assumes nothing.
-use mathlib.Core.Bool.{false}
-use mathlib.Core.List.{List, ◌∷◌}
-use mathlib.Core.Path.{◌≡◌, ◌∙◌}
-use Prim.Native.Nat.{ℕ, ◌+◌, ◌-◌, ◌≤◌, ◌<◌}
+use mathlib.Core.List.{List, [], ◌∷◌}
+use mathlib.Core.Logic.{inl, inr}
+use mathlib.Core.Path.{◌≡◌, refl}
+use mathlib.Mathlib.Data.Bool.Basic.{dichotomy}
+use Prim.Native.Nat.{ℕ, zero, suc, ◌≤◌}
 use native.Mathlib.Omega.{arith}
-use lib.Dec.{ltb}
+use borrow.Author.Tests.{eq-eqb, ne_eqb, ltb-true}
+use lib.Dec.{ltb, eqb}
 use lib.ListN.{length, get_or, take}
-use borrow.Author.Tests.{eq-eqb, ne_eqb}
-use Rattle.fields.specs.Fields.{part}
-use Rattle.fields.proofs.Parts.{part_more}
+use Rattle.std.specs.Prelude.{Some}
+use Rattle.std.specs.Cmp.Lexicographic.{slice_partial_cmp}
+use Rattle.std.specs.Ordering.{nat_cmp, is_lt, is_some_and}
 use Rattle.splitting.specs.Scan.{is_before}
 
-pub record Comparing (a b : List ℕ) (kinds j : ℕ) : Type 0 where
-  pub few : j ≤ kinds
-  pub rest : is_before (take kinds a) (take kinds b) ≡ is_before (part j (kinds - j) a) (part j (kinds - j) b)
+pub before_is : (a b : List ℕ) → length a ≡ length b → is_some_and is_lt (slice_partial_cmp (λ x y. Some (nat_cmp x y)) a b) ≡ is_before a b
+unfolding is_before
+before_is [] [] e = refl
+before_is [] (y ∷ b) e = absurd (omega arith)
+before_is (x ∷ a) [] e = absurd (omega arith)
+before_is (x ∷ a) (y ∷ b) e = elim (dichotomy (ltb x y)) [
+  | inr t ↦ (let l = ltb-true x y t in rw (t, ne_eqb x y (λ s. omega arith)))
+  | inl t ↦ rw t (elim (dichotomy (eqb x y)) [ inr s ↦ rw s (before_is a b (omega arith)) | inl s ↦ rw s ])
+]
 
-pub compare_none : {a b : List ℕ} {kinds : ℕ} → Comparing a b kinds 0
-compare_none {a} {b} {kinds} = let e : kinds - 0 ≡ kinds = omega arith in record { few = omega arith; rest = rw e }
-
-module _ {a b : List ℕ} {kinds j : ℕ} (w : Comparing a b kinds j) where
-  module _ (all-a : kinds ≤ length a) (all-b : kinds ≤ length b) (h : j < kinds) where
-    -- the first kind of those from j
-    here : (l : List ℕ) → kinds ≤ length l → part j (kinds - j) l ≡ get_or l j 0 ∷ part (j + 1) (kinds - (j + 1)) l
-    here l r = let e : kinds - j - 1 ≡ kinds - (j + 1) = omega arith in part_more l j (kinds - j) (omega arith) (omega arith) ∙ rw e
-
-    pub compare_more : get_or a j 0 ≡ get_or b j 0 → Comparing a b kinds (j + 1)
-    unfolding is_before
-    compare_more e = record { few = omega arith; rest = w.rest ∙ rw (here a all-a, here b all-b, eq-eqb (get_or a j 0) (get_or b j 0) e) }
-
-    pub compare_out : (get_or a j 0 ≡ get_or b j 0 → ⊥) → is_before (take kinds a) (take kinds b) ≡ ltb (get_or a j 0) (get_or b j 0)
-    unfolding is_before
-    compare_out e = w.rest ∙ rw (here a all-a, here b all-b, ne_eqb (get_or a j 0) (get_or b j 0) e)
-
-  pub compare_done : kinds ≤ j → is_before (take kinds a) (take kinds b) ≡ false
-  unfolding is_before
-  compare_done h = let e : kinds - j ≡ 0 = omega arith in w.rest ∙ rw e
+pub before_take : (n : ℕ) (a b : List ℕ) → length a ≡ length b → ((j : ℕ) → n ≤ j → get_or a j 0 ≡ get_or b j 0)
+    → is_before a b ≡ is_before (take n a) (take n b)
+unfolding is_before
+before_take zero [] [] e h = refl
+before_take (suc n) [] [] e h = refl
+before_take n [] (y ∷ b) e h = absurd (omega arith)
+before_take n (x ∷ a) [] e h = absurd (omega arith)
+before_take zero (x ∷ a) (y ∷ b) e h = rw (eq-eqb x y (h 0 (omega arith))) (before_take zero a b (omega arith) (λ j l. h (suc j) (omega arith)))
+before_take (suc n) (x ∷ a) (y ∷ b) e h = rw (before_take n a b (omega arith) (λ j l. h (suc j) (omega arith)))

@@ -1,39 +1,38 @@
--- The cost of a split by two looks: what both find, none where either finds none.
+-- The cost of a split by two looks: what both find, none where either finds none, or where the first alone is more than what is held.
 -- Assumes nothing.
-use mathlib.Core.Bool.{true, false}
-use mathlib.Core.List.{List}
+use mathlib.Core.Bool.{Bool, true, false, not}
 use mathlib.Core.Logic.{inl, inr}
 use mathlib.Core.Option.{Option, none, some}
 use mathlib.Core.Path.{◌≡◌, refl, sym, ap, ◌∙◌}
-use mathlib.Mathlib.Data.Bool.Basic.{dichotomy}
 use Prim.Native.Nat.{ℕ, ◌+◌, ◌-◌, ◌^◌, ◌≤◌, ◌<◌}
 use native.Mathlib.Nat.{eq-zero-or-pos}
 use native.Mathlib.Omega.{arith}
-use lib.Dec.{ltb, eqb}
+use lib.Dec.{ltb}
+use Rattle.std.specs.Prelude.{Some, None, Option as Answer}
 use Rattle.units.specs.declared.Cost.{Cost}
 use Rattle.units.specs.Costs.{cost_in, number_of, in_seconds, together}
 use Rattle.units.proofs.Costs.{number_is, one_unit, together_is}
 use Rattle.queue.specs.declared.Queue.{Queue}
 use Rattle.queue.specs.Record.{Valid}
 use Rattle.sequencing.specs.Lists.{sum}
-use Rattle.sequencing.specs.Least.{arg_least}
+use Rattle.sequencing.specs.Least.{only, arg_least}
+use Rattle.sequencing.specs.Problem.{Problem}
 use Rattle.sequencing.specs.Recursion.{to_go, cost_to_go, choice}
-use Rattle.sequencing.specs.Entries.{k_at, block, stored}
-use Rattle.sequencing.proofs.Options.{stored_none, stored_some}
+use Rattle.sequencing.specs.Entries.{k_at, block}
 use Rattle.sequencing.proofs.Entries.{left_digits}
 use Rattle.sequencing.proofs.Equations.{cost_some_left}
 use Rattle.sequencing.proofs.Least.{smallest}
 use Rattle.problem.specs.Bounds.{value_limit}
 use Rattle.problem.specs.OfQueue.{problem}
 use Rattle.problem.proofs.Bounds.{choice_limit, limit_fits}
-use Rattle.splitting.specs.Taken.{both}
-use Rattle.splitting.specs.Scan.{cost_at}
-use Rattle.splitting.proofs.ByIndex.{cost_at_lem}
+use Rattle.splitting.specs.Taken.{both, counts_cost}
+use Rattle.splitting.proofs.ByIndex.{looks_lem}
+use Rattle.splitting.proofs.Covered.{covered}
 use Rattle.jobs_left.specs.declared.JobsLeft.{JobsLeft}
-use Rattle.layout.specs.declared.Layout.{Layout}
+use Rattle.jobs_left.specs.Steps.{LeftOf}
 use Rattle.split_search.specs.declared.Bench.{Bench}
-use Rattle.split_search.specs.Searching.{alone, cost_upto, SplitsAt}
-use Rattle.split_search.proofs.Rest.{in_block, mirrored_is}
+use Rattle.split_search.specs.declared.Split.{Split}
+use Rattle.split_search.specs.Searching.{cost_answer, exceeds, cost_upto}
 
 -- no look finds more than the number
 look_limit : (q : Queue) → Valid q → (L i c : ℕ) → L ≤ q.kinds → cost_to_go (problem q) L (k_at (problem q) i) ≡ some c → c ≤ value_limit
@@ -47,112 +46,96 @@ look_limit q v L i c u e =
           choice_limit q v L k (arg_least (choice P L k) P.N) c u (left_digits P i) m.reached)
     ]
 
--- two costs as the looks give them
-module _ (goal : ℕ) where
-  abbrev Small : Option ℕ → Type 0
-  Small r = (c : ℕ) → r ≡ some c → c ≤ value_limit
+-- ---- costs as they are answered
 
-  none_is : (r : Option ℕ) {x : Cost} → Small r → x ≡ cost_in goal (stored r) → number_of x ≡ 2 ^ 64 - 1 → r ≡ none
-  none_is r small e h = stored_none r (λ c f. omega (arith, small c f, limit_fits)) (sym (number_is goal (stored r) e) ∙ h)
+pub answer_none : (goal : ℕ) (r : Option ℕ) → None ≡ cost_answer goal r → r ≡ none
+answer_none goal none e = refl
+answer_none goal (some c) e = cc
 
-  some_is : (r : Option ℕ) {x : Cost} → x ≡ cost_in goal (stored r) → (number_of x ≡ 2 ^ 64 - 1 → ⊥) → (c : ℕ) × (r ≡ some c) × (x ≡ cost_in goal c)
-  some_is r e h = (stored r, stored_some r (λ f. h (number_is goal (stored r) e ∙ f)), e)
+pub answer_some : (goal : ℕ) (r : Option ℕ) {x : Cost} → Some x ≡ cost_answer goal r → (c : ℕ) × (r ≡ some c) × (x ≡ cost_in goal c)
+answer_some goal none e = cc
+answer_some goal (some c) e = (c, refl, cc)
 
-  module _ (a b : Option ℕ) {x : Cost} (small-a : Small a) (x-is : x ≡ cost_in goal (stored a)) where
-    first_none : number_of x ≡ 2 ^ 64 - 1 → both goal a b ≡ none
-    first_none h = rw (none_is a small-a x-is h)
+only_none : (t : Bool) → only t none ≡ none
+only_none true = refl
+only_none false = refl
 
-    module _ {y : Cost} (small_b : Small b) (y-is : y ≡ cost_in goal (stored b)) (found : number_of x ≡ 2 ^ 64 - 1 → ⊥) where
-      second_none : number_of y ≡ 2 ^ 64 - 1 → both goal a b ≡ none
-      second_none h = let (c, f, _) = some_is a x-is found in rw (f, none_is b small_b y-is h)
+-- ---- a split held that the first cutter alone does not exceed, or none
 
-      module _ (found' : number_of y ≡ 2 ^ 64 - 1 → ⊥) where
-        both_fit : number_of x + number_of y < 2 ^ 64
-        both_fit =
-            let (c, f, p) = some_is a x-is found in
-            let (d, g, q) = some_is b y-is found' in
-            omega (arith, number_is goal c p, number_is goal d q, small-a c f, small_b d g, limit_fits)
+pub spared_none : (r : Option ℕ) {held : Answer Split} → held ≡ None → exceeds r held ≡ false
+spared_none none e = refl
+spared_none (some c) e = rw e
 
-        both_found : together x y ≡ cost_in goal (stored (both goal a b))
-        both_found =
-            let (c, f, p) = some_is a x-is found in
-            let (d, g, q) = some_is b y-is found' in
-            rw (f, g) (together_is goal c p d q)
+pub spared : (goal : ℕ) {x : Cost} {held : Answer Split} {h : Split} (r : Option ℕ) → Some x ≡ cost_answer goal r → held ≡ Some h
+    → ltb (number_of h.cost) (number_of x) ≡ false → exceeds r held ≡ false
+spared goal {x} {held} {h} r f e less = let (c, g, x-is) = answer_some goal r f in rw (g, e, ← (number_is goal c x-is)) less
 
--- the first cutter alone never costs more than both
-alone_both : (goal : ℕ) (a b : Option ℕ) → ((c : ℕ) → a ≡ some c → c ≤ 2 ^ 64 - 1) → stored a ≤ stored (both goal a b)
-alone_both goal none b most = omega arith
-alone_both goal (some a) none most = most a refl
-alone_both goal (some a) (some b) most = elim (dichotomy (eqb goal 1)) [ inr e ↦ rw e (omega arith) | inl e ↦ rw e (omega arith) ]
+-- ---- of one split
 
--- of one split
-module _ {q : Queue} {l : Layout} {table left counts strides blocks gaps : List ℕ} {goal : ℕ} {b : Bench} {k : JobsLeft}
-    (s : SplitsAt q l table left counts strides blocks gaps goal b k) where
-  abbrev A : Option ℕ
-  A = cost_to_go (problem q) q.start (k_at (problem q) k.index)
+module _ (b : Bench) {k : JobsLeft} (w : LeftOf (problem b.filled.setup.now.queue) k) where
+  abbrev q : Queue
+  q = b.filled.setup.now.queue
 
-  abbrev B : Option ℕ
-  B = cost_to_go (problem q) b.second (k_at (problem q) (block (problem q) - 1 - k.index))
+  abbrev P : Problem
+  P = problem q
 
-  cost_is : cost_at (problem q) b.second k.index ≡ stored (both q.goal A B)
-  cost_is = cost_at_lem (problem q) k.index (in_block s) s.permitted b.second
+  abbrev pub A : Option ℕ
+  A = cost_to_go P q.start (k_at P k.index)
 
-  -- the first cutter's start is a row
-  pub start_in : b.start ≤ q.kinds
-  start_in = omega (arith, s.start_is, s.looks.valid.start)
+  abbrev pub B : Option ℕ
+  B = cost_to_go P b.second (k_at P (block P - 1 - k.index))
 
-  small_A : Small q.goal A
-  small_A c e = look_limit q s.looks.valid q.start k.index c s.looks.valid.start e
+  pub cost_is : counts_cost P b.second (k_at P k.index) ≡ both q.goal A B
+  cost_is = looks_lem P k.index w.left_at.within (covered q b.filled.setup.now.valid (rw b.covered tt)) b.second
 
-  small_B : Small q.goal B
-  small_B c e = look_limit q s.looks.valid b.second (block (problem q) - 1 - k.index) c s.second_in e
-
-  pub alone_low : alone (problem q) k.index ≤ cost_at (problem q) b.second k.index
-  alone_low = rw cost_is (alone_both q.goal A B (λ c e. omega (arith, small_A c e, limit_fits)))
-
-  module _ {x : Cost} (f : x ≡ cost_in q.goal (stored (cost_to_go (problem q) b.start (k_at (problem q) k.index)))) where
-    first_is : x ≡ cost_in q.goal (stored A)
-    first_is = rw s.start_is at f
-
-    -- the best so far is in the same unit
-    pub one_unit_with : {most : Cost} → most ≡ cost_in goal (number_of most) → in_seconds most ≡ in_seconds x
-    one_unit_with {most} e = one_unit q.goal (number_of most) (rw s.looks.goal_is at e) (stored A) first_is
-
-    alone_is : number_of x ≡ alone (problem q) k.index
-    alone_is = number_is q.goal (stored A) first_is
-
-    -- the first cutter costs more than m alone, or not
-    pub dearer : (m : ℕ) → ltb m (number_of x) ≡ true
-        → cost_in goal (number_of x) ≡ cost_in q.goal (cost_upto (problem q) b.second m k.index)
-    dearer m e = let f = rw alone_is at e in rw (s.looks.goal_is, alone_is, f)
-
-    pub not_dearer : (m : ℕ) → ltb m (number_of x) ≡ false
-        → cost_upto (problem q) b.second m k.index ≡ cost_at (problem q) b.second k.index
-    not_dearer m e = let f = rw alone_is at e in rw f
-
-    none_at : both q.goal A B ≡ none → cost_in goal (2 ^ 64 - 1) ≡ cost_in q.goal (cost_at (problem q) b.second k.index)
-    none_at e = rw s.looks.goal_is (ap (cost_in q.goal) (sym (cost_is ∙ ap stored e)))
+  module _ (held : Answer Split) where
+    abbrev Cost-upto : Answer Cost
+    Cost-upto = cost_answer q.goal (cost_upto P b.second held k.index)
 
     -- the first cutter has no order
-    pub no_first : number_of x ≡ 2 ^ 64 - 1 → cost_in goal (2 ^ 64 - 1) ≡ cost_in q.goal (cost_at (problem q) b.second k.index)
-    no_first h = none_at (first_none q.goal A B small_A first_is h)
+    pub no_first : None ≡ cost_answer q.goal A → None ≡ Cost-upto
+    no_first e = rw (cost_is, answer_none q.goal A e)
 
-    module _ {y : Cost} (g : y ≡ cost_in q.goal (stored (cost_to_go (problem q) b.second (k_at (problem q) (b.size.block - 1 - k.index))))) where
-      second_is : y ≡ cost_in q.goal (stored B)
-      second_is = rw (mirrored_is s) at g
+    module _ {x : Cost} (first : Some x ≡ cost_answer q.goal A) where
+      -- or costs more alone than the split held
+      pub dearer : {r : Split} → held ≡ Some r → ltb (number_of r.cost) (number_of x) ≡ true → None ≡ Cost-upto
+      dearer {r} e less =
+          let (a, f, x-is) = answer_some q.goal A first in
+          let exceeded : exceeds A held ≡ true = rw (f, e, ← (number_is q.goal a x-is)) less in
+          rw exceeded
 
-      pub one_unit_both : in_seconds x ≡ in_seconds y
-      one_unit_both = one_unit q.goal (stored A) first_is (stored B) second_is
+      -- the split held is in the same unit
+      pub one_unit_with : (r : Split) → r.cost ≡ cost_in q.goal (number_of r.cost) → in_seconds r.cost ≡ in_seconds x
+      one_unit_with r e = let (a, f, x-is) = answer_some q.goal A first in one_unit q.goal (number_of r.cost) e a x-is
 
-      module _ (found : number_of x ≡ 2 ^ 64 - 1 → ⊥) where
+      module _ {i : ℕ} (i-is : i ≡ block P - 1 - k.index) where
         -- the second has none
-        pub no_second : number_of y ≡ 2 ^ 64 - 1 → cost_in goal (2 ^ 64 - 1) ≡ cost_in q.goal (cost_at (problem q) b.second k.index)
-        no_second h = none_at (second_none q.goal A B small_A first_is small_B second_is found h)
+        pub no_second : None ≡ cost_answer q.goal (cost_to_go P b.second (k_at P i)) → None ≡ Cost-upto
+        no_second e =
+            let (a, f, _) = answer_some q.goal A first in
+            rw (cost_is, f, answer_none q.goal B (rw i-is at e), only_none (not (exceeds (some a) held)))
 
-        module _ (found' : number_of y ≡ 2 ^ 64 - 1 → ⊥) where
-          pub sum_fits : number_of x + number_of y < 2 ^ 64
-          sum_fits = both_fit q.goal A B small_A first_is small_B second_is found found'
+        module _ {y : Cost} (second : Some y ≡ cost_answer q.goal (cost_to_go P b.second (k_at P i))) where
+          -- both costs can be added
+          pub may_add : (in_seconds x ≡ in_seconds y) × (number_of x + number_of y < 2 ^ 64)
+          may_add =
+              let v = b.filled.setup.now.valid in
+              let (a, f, x-is) = answer_some q.goal A first in
+              let (d, g, y-is) = answer_some q.goal B (rw i-is at second) in (
+                one_unit q.goal a x-is d y-is,
+                omega (
+                  arith,
+                  number_is q.goal a x-is,
+                  number_is q.goal d y-is,
+                  look_limit q v q.start k.index a v.start f,
+                  look_limit q v b.second (block P - 1 - k.index) d b.second_in g,
+                  limit_fits,
+                ),
+              )
 
           -- both have one
-          pub both_cost : together x y ≡ cost_in q.goal (cost_at (problem q) b.second k.index)
-          both_cost = both_found q.goal A B small_A first_is small_B second_is found found' ∙ ap (cost_in q.goal) (sym cost_is)
+          pub both_cost : exceeds A held ≡ false → Some (together x y) ≡ Cost-upto
+          both_cost less =
+              let (a, f, x-is) = answer_some q.goal A first in
+              let (d, g, y-is) = answer_some q.goal B (rw i-is at second) in
+              rw (less, cost_is, f, g) (ap Some (together_is q.goal a x-is d y-is))

@@ -1,50 +1,66 @@
 -- A row's own entry: it lies within the table, and where it holds a value that is the cost of what is left after the row.
 -- Assumes nothing.
-use mathlib.Core.Bool.{Bool}
-use mathlib.Core.List.{List}
-use mathlib.Core.Logic.{◌≢◌}
-use mathlib.Core.Path.{◌≡◌, sym, ap, ◌∙◌}
+use mathlib.Core.Logic.{inl, inr}
+use mathlib.Core.Option.{Option, none, some}
+use mathlib.Core.Path.{◌≡◌, ◌∙◌}
+use mathlib.Mathlib.Data.Bool.Basic.{dichotomy}
 use Prim.Native.Nat.{ℕ, suc, ◌+◌, ◌-◌, ◌*◌, ◌^◌, ◌≤◌, ◌<◌}
 use native.Mathlib.Omega.{arith}
+use lib.Dec.{eqb}
 use lib.ListN.{length, get_or}
+use Rattle.std.specs.Prelude.{Some}
 use Rattle.units.specs.Costs.{cost_in}
 use Rattle.queue.specs.declared.Queue.{Queue}
 use Rattle.sequencing.specs.Problem.{Problem}
 use Rattle.sequencing.specs.Recursion.{cost_to_go, value}
-use Rattle.sequencing.specs.Entries.{k_at, number, block, stored}
-use Rattle.sequencing.proofs.Options.{stored_some}
+use Rattle.sequencing.specs.Entries.{k_at, number, block, entries, stored}
 use Rattle.sequencing.proofs.Recursion.{value_some}
 use Rattle.problem.specs.OfQueue.{problem}
 use Rattle.problem.proofs.Sizes.{entries_small}
 use Rattle.jobs_left.specs.declared.JobsLeft.{JobsLeft}
-use Rattle.layout.specs.declared.Layout.{Layout}
-use Rattle.next_states.specs.Numbers.{Numbers}
+use Rattle.jobs_left.specs.Steps.{LeftOf}
+use Rattle.layout.proofs.Prepared.{block_at}
+use Rattle.next_states.specs.NextStates.{loaded, answer}
 use Rattle.next_states.proofs.Numbers.{number_at}
 use Rattle.filling.proofs.Tables.{entry_below}
-use Rattle.solver.specs.Looking.{LooksAt}
-use Rattle.solver.proofs.Looking.{running_at}
+use Rattle.solver.specs.declared.Filled.{Filled}
+use Rattle.split_search.specs.Searching.{cost_answer}
 
-module _ {q : Queue} {l : Layout} {table left strides blocks gaps : List ℕ} {forbids : Bool} {goal : ℕ} {k : JobsLeft}
-    (s : LooksAt q l table left strides blocks gaps forbids goal k) (row : ℕ) (some-row : 0 < row) (row_in : row ≤ q.kinds) where
+-- what is read from an entry was stored
+value_is : (r : Option ℕ) {v : ℕ} → Some v ≡ answer (loaded (stored r)) → r ≡ some v
+value_is none e = cc
+value_is (some c) {v} e = elim (dichotomy (eqb c (2 ^ 64 - 1))) [
+  | inr t ↦ (let f = rw t at e in cc)
+  | inl t ↦ (let f = rw t at e in cc)
+]
+
+module _ (s : Filled) {k : JobsLeft} (left : LeftOf (problem s.setup.now.queue) k) {row : ℕ} (some-row : 0 < row) (row_in : row ≤ s.setup.now.queue.kinds) where
+  abbrev q : Queue
+  q = s.setup.now.queue
+
   abbrev P : Problem
   P = problem q
 
-  pub row_block : (row - 1 < 5) × (k.index + get_or blocks (row - 1) 0 < 2 ^ 64)
+  entry_in : (row - 1) * block P + k.index < entries P
+  entry_in = entry_below P row k.index some-row row_in left.left_at.within
+
+  pub row_block : (row - 1 < 5) × (k.index + get_or s.setup.now.layout.blocks (row - 1) 0 < 2 ^ 64)
   row_block =
-      let numbers = (running_at s).numbers in
+      let v = s.setup.now.valid in
       let e : suc (row - 1) - 1 ≡ row - 1 = omega arith in
-      let is : get_or blocks (row - 1) 0 ≡ (row - 1) * block P = rw e at (numbers.block_is (suc (row - 1)) (omega arith) (omega arith)) in
-      (omega (arith, s.valid.kinds), rw is (omega (arith, entry_below P row k.index some-row row_in s.left_is.within, entries_small q s.valid)))
+      let is = rw e at (block_at v s.setup.now.prepared (suc (row - 1)) (omega arith) (omega arith)) in
+      (omega (arith, v.kinds), omega (arith, is, entry_in, entries_small q v))
 
-  module _ {at : ℕ} (is : (P' : Problem) (strides' : List ℕ) → Numbers P' strides' blocks → k.index < block P' → row - 1 < P'.N → at ≡ number P' (suc (row - 1)) (k_at P' k.index)) where
-    position : at ≡ (row - 1) * block P + k.index
-    position = is P strides (running_at s).numbers s.left_is.within (omega arith) ∙ number_at P (row - 1) k.index s.left_is.within
+  module _ {entry : ℕ} (is : k.index < block P → row - 1 < q.kinds → entry ≡ number P (suc (row - 1)) (k_at P k.index)) where
+    position : entry ≡ (row - 1) * block P + k.index
+    position = is left.left_at.within (omega arith) ∙ number_at P (row - 1) k.index left.left_at.within
 
-    pub row_entry : at < length table
-    row_entry = rw position (omega (arith, entry_below P row k.index some-row row_in s.left_is.within, s.room))
+    pub row_entry : entry < length s.table.now
+    row_entry = omega (arith, position, entry_in, s.room)
 
-    pub row_cost : {v : ℕ} → v ≡ get_or table at 0 → v ≢ 2 ^ 64 - 1 → cost_in goal v ≡ cost_in q.goal (stored (cost_to_go P row (k_at P k.index)))
-    row_cost {v} e other =
-        let held : v ≡ stored (value P row (k_at P k.index)) = rw position at e ∙ s.filled row k.index some-row row_in s.left_is.within in
-        let found = (value_some P row (k_at P k.index) _ (stored_some (value P row (k_at P k.index)) (λ h. other (held ∙ h)))).2 in
-        rw s.goal_is (ap (cost_in q.goal) (held ∙ sym (ap stored found)))
+    pub row_cost : {v : ℕ} → Some v ≡ answer (loaded (get_or s.table.now entry 0))
+        → Some (cost_in q.goal v) ≡ cost_answer q.goal (cost_to_go P row (k_at P k.index))
+    row_cost {v} e =
+        let held = rw position at e in
+        let f = value_is (value P row (k_at P k.index)) (rw (s.filled row k.index some-row row_in left.left_at.within) at held) in
+        rw ((value_some P row (k_at P k.index) v f).2)

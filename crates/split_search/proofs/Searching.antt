@@ -1,246 +1,194 @@
 -- The search: after each turn it holds the best of the splits passed.
 -- Assumes nothing.
-use mathlib.Core.Bool.{true, false, cond}
+use mathlib.Core.Bool.{Bool, true, false, not, ◌&&◌, ◌||◌}
 use mathlib.Core.List.{List}
-use mathlib.Core.Logic.{inl, inr}
-use mathlib.Core.Path.{◌≡◌, refl, sym, ap, ◌∙◌}
-use Prim.Native.Nat.{ℕ, suc, ◌+◌, ◌-◌, ◌^◌, ◌≤◌, ◌<◌}
-use native.Mathlib.Numerals.{add-one}
+use mathlib.Core.Logic.{◌⊎◌, inl, inr}
+use mathlib.Core.Option.{Option, none, some}
+use mathlib.Core.Path.{◌≡◌, refl, sym, ◌∙◌}
+use mathlib.Mathlib.Data.Bool.Basic.{dichotomy}
+use Prim.Native.Nat.{ℕ, suc, ◌≤◌, ◌<◌}
 use native.Mathlib.Omega.{arith}
-use lib.Dec.{T as Is, ltb}
-use lib.ListN.{length, take, drop, replicate}
-use borrow.Author.Tests.{lt-ltb, le-ltb, ltb-true, ltb-false}
-use Rattle.number.proofs.Steps.{below_or_not}
+use borrow.Author.Tests.{ltb-true, ltb-false}
+use lib.Dec.{ltb, eqb}
+use Rattle.std.specs.Prelude.{Some, None, Option as Answer, IfSome}
 use Rattle.units.specs.declared.Cost.{Cost}
 use Rattle.units.specs.Costs.{cost_in, number_of, in_seconds}
 use Rattle.units.proofs.Costs.{number_is, one_unit}
 use Rattle.queue.specs.declared.Queue.{Queue}
-use Rattle.queue.specs.Record.{weight, Valid}
-use Rattle.sequencing.specs.Lists.{sum, weigh}
+use Rattle.sequencing.specs.Problem.{Problem}
 use Rattle.sequencing.specs.States.{all_left}
-use Rattle.sequencing.specs.Entries.{digits, k_at, block, entries}
+use Rattle.sequencing.specs.Entries.{digits, k_at, block}
+use Rattle.sequencing.specs.Ties.{Precedes}
+use Rattle.sequencing.proofs.Options.{none_some, some_eq, only_some}
 use Rattle.sequencing.proofs.Radix.{digits_length}
 use Rattle.problem.specs.OfQueue.{problem}
 use Rattle.problem.proofs.Rule.{proper}
-use Rattle.splitting.specs.Covers.{covers}
-use Rattle.splitting.specs.Scan.{is_before, cost_at, Held}
-use Rattle.splitting.proofs.Covered.{covered}
+use Rattle.splitting.specs.Splits.{of_both}
+use Rattle.splitting.specs.Taken.{counts_cost}
+use Rattle.splitting.specs.Scan.{is_before, NoneHeld, Held}
+use Rattle.splitting.proofs.Best.{both_some}
 use Rattle.splitting.proofs.Precedes.{before_cases}
-use Rattle.splitting.proofs.Queues.{taken_fits}
-use Rattle.splitting.proofs.Scan.{held_start, held_new, held_on, held_taken}
+use Rattle.splitting.proofs.Scan.{none_more, held_first, held_new, held_on, none_taken, held_taken}
 use Rattle.jobs_left.specs.declared.JobsLeft.{JobsLeft}
-use Rattle.jobs_left.specs.Steps.{next, Summed, LeftAt}
-use Rattle.jobs_left.proofs.LeftAt.{left_none}
-use Rattle.layout.specs.declared.Layout.{Layout}
-use Rattle.layout.specs.Prepared.{Prepared}
-use Rattle.layout.proofs.Prepared.{counts_take}
-use Rattle.filling.specs.Filling.{Earlier}
-use Rattle.filling.proofs.Counting.{Counting, counting_none, left_here, counting_more, counting_done}
-use Rattle.solver.proofs.Looking.{own_looks}
-use Rattle.split_search.specs.declared.Split.{Split}
+use Rattle.jobs_left.specs.Steps.{LeftAt, LeftOf}
 use Rattle.split_search.specs.declared.Bench.{Bench}
-use Rattle.split_search.specs.Searching.{alone, cost_upto, SplitsAt, no_split, first_of, Best}
-use Rattle.split_search.proofs.Costs.{alone_low}
+use Rattle.split_search.specs.declared.Split.{Split}
+use Rattle.split_search.specs.Searching.{cost_answer, exceeds, cost_upto, is_better, IsBest}
+use Rattle.split_search.proofs.Before.{before_take}
+use Rattle.split_search.proofs.Costs.{answer_none, answer_some, spared_none, A, B, cost_is}
 
--- what the search is given
-pub record Given (q : Queue) (l : Layout) (table : List ℕ) (second : ℕ) : Type 0 where
-  pub valid : Valid q
-  pub prepared : Prepared q l
-  pub filled : Earlier (problem q) table (block (problem q))
-  pub room : entries (problem q) ≤ length table
-  pub covering : Is (covers q)
-  pub second_in : second ≤ q.kinds
-  pub gaps_long : length q.gaps ≡ 30
-  pub weights_long : length q.weights ≡ 5
+-- whichever goal, both cost no less than the first alone
+both_more : (goal a b : ℕ) → a ≤ of_both goal a b
+both_more goal a b = elim (dichotomy (eqb goal 1)) [ inr e ↦ rw e (omega arith) | inl e ↦ rw e (omega arith) ]
 
--- as its functions require it
-pub as_given : {q : Queue} {l : Layout} {table : List ℕ} {second : ℕ}
-    → Valid q × (Prepared q l × (Earlier (problem q) table (block (problem q)) × ((entries (problem q) ≤ length table) × (Is (covers q) × (second ≤ q.kinds)))))
-    → length q.gaps ≡ 30 → length q.weights ≡ 5 → Given q l table second
-as_given (v, (p, (filled, (room, (covering, second_in))))) gaps weights = record {
-  valid = v;
-  prepared = p;
-  filled = filled;
-  room = room;
-  covering = covering;
-  second_in = second_in;
-  gaps_long = gaps;
-  weights_long = weights;
-}
+-- counts that have an index each are compared as those of the index
+before_left : {P : Problem} (k l : JobsLeft) → LeftAt P k.left k.index → LeftAt P l.left l.index
+    → is_before k.left l.left ≡ is_before (k_at P k.index) (k_at P l.index)
+before_left {P} k l v w = before_take P.N k.left l.left (v.long ∙ sym w.long) (λ j h. v.past (suc j) (omega arith) ∙ sym (w.past (suc j) (omega arith))) ∙ rw (v.here, w.here)
 
--- a split of the queue: its cost in the goal's unit, and counts that have its index and are so many
-pub record SplitOf (q : Queue) (s : Split) : Type 0 where
-  pub in_unit : s.cost ≡ cost_in q.goal (number_of s.cost)
-  pub counts_are : LeftAt (problem q) s.counts s.index
-  pub jobs_are : s.jobs ≡ sum (k_at (problem q) s.index)
+-- ---- less, or equal and before
 
--- the best of the splits passed
-pub record Searching (q : Queue) (second : ℕ) (left : List ℕ) (best : Split) (k : JobsLeft) : Type 0 where
-  pub counting : Counting q left k
-  pub held : Held (cost_at (problem q) second) (all_left (problem q)) k.index best.index (number_of best.cost)
-  pub is_split : SplitOf q best
+decided : (m n : ℕ) (t : Bool) → ltb m n || (not (ltb n m) && t) ≡ true → (m < n) ⊎ ((m ≡ n) × (t ≡ true))
+decided m n t e = elim (dichotomy (ltb m n)) [
+  | inr l ↦ inl (ltb-true m n l)
+  | inl g ↦ (elim (dichotomy (ltb n m)) [
+    | inr l ↦ (let h = rw (g, l) at e in cc)
+    | inl g' ↦ (let h = rw (g, g') at e in let low = ltb-false m n g in let high = ltb-false n m g' in inr (omega arith, h))
+  ])
+]
 
--- the counts stepped on
-abbrev pub Stepped : (q : Queue) (l : Layout) (left : List ℕ) (k : JobsLeft) (left' : List ℕ) (k' : JobsLeft) → Type 0
-Stepped q l left k left' k' =
-    let n = l.size.kinds in
-    (length left' ≡ length left) × ((take n left' ≡ next (take n l.counts) (take n left)) × ((drop n left' ≡ drop n left)
-    × (Summed q.weights (take n left') k'.jobs k'.weight × (k'.index ≡ k.index + 1))))
+refused : (m n : ℕ) (t : Bool) → ltb m n || (not (ltb n m) && t) ≡ false → (n < m) ⊎ ((n ≡ m) × (t ≡ false))
+refused m n t e = elim (dichotomy (ltb m n)) [
+  | inr l ↦ (let h = rw l at e in cc)
+  | inl g ↦ (elim (dichotomy (ltb n m)) [
+    | inr l ↦ inl (ltb-true n m l)
+    | inl g' ↦ (let h = rw (g, g') at e in let low = ltb-false m n g in let high = ltb-false n m g' in inr (omega arith, h))
+  ])
+]
 
-module _ {q : Queue} {l : Layout} {table : List ℕ} {second : ℕ} (g : Given q l table second) where
-  pub search_none : Searching q second (replicate 5 0) (no_split q.goal) (record { index = 0; jobs = 0; weight = 0 })
-  search_none =
-      let n = number_is q.goal (2 ^ 64 - 1) refl in
+-- the first cutter alone costs more than the split held
+exceeded : (r : Option ℕ) (h : Split) → exceeds r (Some h) ≡ true → (a : ℕ) × (r ≡ some a) × (number_of h.cost < a)
+exceeded none h e = cc
+exceeded (some a) h e = (a, refl, ltb-true (number_of h.cost) a e)
+
+-- a split held: its counts are the first of the least cost of those whose index is below i
+pub record HeldSplit (q : Queue) (second i : ℕ) (r : Split) : Type 0 where
+  pub held : Held (λ j. counts_cost (problem q) second (k_at (problem q) j)) (all_left (problem q)) i r.first.index (number_of r.cost)
+  pub in_unit : r.cost ≡ cost_in q.goal (number_of r.cost)
+  pub left_of : LeftOf (problem q) r.first
+
+-- or none, as none of them has a cost
+abbrev pub Holds : (q : Queue) (second i : ℕ) → Answer Split → Type 0
+Holds q second i None = NoneHeld (λ j. counts_cost (problem q) second (k_at (problem q) j)) i
+Holds q second i (Some r) = HeldSplit q second i r
+
+-- it is in the goal's unit
+pub in_unit_held : (q : Queue) (second i : ℕ) (best : Answer Split) → Holds q second i best → IfSome best (λ r. r.cost ≡ cost_in q.goal (number_of r.cost))
+in_unit_held q second i None h = tt
+in_unit_held q second i (Some r) h = h.in_unit
+
+-- at its end: the split taken
+pub held_done : (b : Bench) (best : Answer Split) → Holds b.filled.setup.now.queue b.second (block (problem b.filled.setup.now.queue)) best
+    → IsBest b.filled.setup.now.queue b.second best
+held_done b None h = let q = b.filled.setup.now.queue in none_taken (problem q) (proper q b.filled.setup.now.valid) b.second h
+held_done b (Some r) h =
+    let q = b.filled.setup.now.queue in
+    let t = held_taken (problem q) (proper q b.filled.setup.now.valid) b.second r.first.index (number_of r.cost) h.held in
+    record { cost_is = t.0; in_unit = h.in_unit; counts_are = t.1; left_of = h.left_of }
+
+-- ---- a turn
+
+module _ (b : Bench) {k : JobsLeft} (w : LeftOf (problem b.filled.setup.now.queue) k) where
+  abbrev q : Queue
+  q = b.filled.setup.now.queue
+
+  abbrev P : Problem
+  P = problem q
+
+  abbrev s : ℕ
+  s = b.second
+
+  abbrev f : ℕ → Option ℕ
+  f = λ j. counts_cost P s (k_at P j)
+
+  abbrev cs : List ℕ
+  cs = all_left P
+
+  -- passed over: there is no such cost, or the first cutter alone costs more than the split held
+  pub turn_over : (best : Answer Split) → Holds q s k.index best → None ≡ cost_answer q.goal (cost_upto P s best k.index) → Holds q s (suc k.index) best
+  turn_over None h e =
+      let u = answer_none q.goal (cost_upto P s None k.index) e in
+      none_more f cs k.index h (rw (spared_none (A b w) refl) at u)
+  turn_over (Some r) h e =
+      let u = answer_none q.goal (cost_upto P s (Some r) k.index) e in
       record {
-        counting = counting_none g.valid;
-        held = rw n (held_start (cost_at (problem q) second) (all_left (problem q)));
-        is_split = record {
-          in_unit = rw n;
-          counts_are = left_none g.valid.kinds.1;
-          jobs_are = (counting_none g.valid).summed.jobs_are ∙ ap sum (left_none g.valid.kinds.1).here;
-        };
+        held = held_on f cs k.index r.first.index (number_of r.cost) h.held (λ d g. elim (dichotomy (exceeds (A b w) (Some r))) [
+          | inl t ↦ (let none-there = rw t at u in absurd (none_some d (sym none-there ∙ g)))
+          | inr t ↦ (
+              let (a, is, more) = exceeded (A b w) r t in
+              let (a', b', is', _, sums) = both_some q.goal (A b w) (B b w) d (sym (cost_is b w) ∙ g) in
+              let same = some_eq a a' (sym is ∙ is') in
+              inl (omega (arith, both_more q.goal a' b', sums)))
+        ]);
+        in_unit = h.in_unit;
+        left_of = h.left_of;
       }
 
-  module _ {left : List ℕ} {k : JobsLeft} (left_is : LeftAt (problem q) left k.index)
-      (sums_are : Summed q.weights (take q.kinds left) k.jobs k.weight) where
-    -- what the cost of the split with these counts is found from
-    pub splits : {b : Bench}
-        → b ≡ record { size = l.size; weight = weigh (weight q) (take l.size.kinds l.counts); start = q.start; second = second; forbids = l.forbids }
-        → SplitsAt q l table left l.counts l.strides l.blocks q.gaps q.goal b k
-    splits e = rw e record {
-      looks = own_looks g.valid g.prepared left_is g.filled g.room g.gaps_long sums_are;
-      counts_are = refl;
-      size_is = refl;
-      weight_is = rw (g.prepared.kinds_are, counts_take g.valid g.prepared);
-      start_is = refl;
-      second_in = g.second_in;
-      permitted = covered q g.valid g.covering;
-    }
-
-  -- what comparing it with the best so far may rely on
-  pub may_compare : (m n : ℕ) {b c : Cost} → b ≡ cost_in q.goal m → c ≡ cost_in q.goal n → (q.kinds ≤ 5) × (in_seconds b ≡ in_seconds c)
-  may_compare m n held cost = (g.valid.kinds.1, one_unit q.goal m held n cost)
-
-  module _ {left : List ℕ} {best : Split} {k : JobsLeft} (w : Searching q second left best k) (h : k.index < l.size.block) (c : Cost) where
-    abbrev new : Split
-    new = record { cost = c; index = k.index; jobs = k.jobs; counts = left }
-
-    abbrev f : ℕ → ℕ
-    f = cost_at (problem q) second
-
-    abbrev cs : List ℕ
-    cs = all_left (problem q)
-
-    abbrev n : ℕ
-    n = number_of best.cost
-
-    -- the better of the best so far and this one
-    record Turned (r : Split) : Type 0 where
-      holds : Held f cs (suc k.index) r.index (number_of r.cost)
-      is_one : SplitOf q r
-
-    turned_held : Held f cs (suc k.index) best.index n → Turned best
-    turned_held t = record { holds = t; is_one = w.is_split }
-
-    -- this one costs more
-    turned_dearer : n < f k.index → Turned best
-    turned_dearer m = turned_held (held_on f cs k.index best.index n w.held (inl m))
-
-    -- its whole cost is known
-    module _ (cost : c ≡ cost_in q.goal (f k.index)) where
-      number : number_of c ≡ f k.index
-      number = number_is q.goal (f k.index) cost
-
-      new_split : SplitOf q new
-      new_split =
-          let here = left_here g.valid g.prepared w.counting h in
-          record { in_unit = rw number cost; counts_are = here; jobs_are = w.counting.summed.jobs_are ∙ ap sum here.here }
-
-      turned_new : Held f cs (suc k.index) k.index (f k.index) → Turned new
-      turned_new t = record { holds = rw number t; is_one = new_split }
-
-      fronts : (take q.kinds left ≡ digits cs k.index) × (take q.kinds best.counts ≡ digits cs best.index)
-      fronts = (new_split.counts_are.here, w.is_split.counts_are.here)
-
-      -- of equal costs
-      tied : number_of c ≡ n → Turned (cond (is_before (take q.kinds left) (take q.kinds best.counts)) new best)
-      tied e =
-          let same : f k.index ≡ n = sym number ∙ e in
-          let longs = digits_length cs k.index ∙ sym (digits_length cs best.index) in
-          rw (fronts.0, fronts.1) (elim (before_cases (digits cs k.index) (digits cs best.index) longs) [
-            | inl r ↦ rw r.0 (turned_new (held_new f cs k.index best.index n w.held (inr (same, r.1))))
-            | inr r ↦ rw r.0 (turned_held (held_on f cs k.index best.index n w.held (inr (sym same, r.1))))
-          ])
-
-      turned : Turned (first_of q.kinds best new)
-      turned = elim (below_or_not (number_of c) n) [
-        | inl a ↦ rw (lt-ltb (number_of c) n a) (turned_new (held_new f cs k.index best.index n w.held (inl (omega (arith, number)))))
-        | inr a ↦ (elim (below_or_not n (number_of c)) [
-          | inl b ↦ rw (le-ltb (number_of c) n a, lt-ltb n (number_of c) b) (turned_dearer (omega (arith, number)))
-          | inr b ↦ rw (le-ltb (number_of c) n a, le-ltb n (number_of c) b) (tied (omega arith))
-        ])
+  -- counts of a split held, compared with these
+  precedes : (r : Split) → LeftOf P r.first
+      → (is_before k.left r.first.left ≡ true → Precedes (digits cs k.index) (digits cs r.first.index))
+      × (is_before k.left r.first.left ≡ false → Precedes (digits cs r.first.index) (digits cs k.index))
+  precedes r v =
+      let same = before_left k r.first w.left_at v.left_at in
+      elim (before_cases (digits cs k.index) (digits cs r.first.index) (digits_length cs k.index ∙ sym (digits_length cs r.first.index))) [
+        | inl t ↦ ((λ _. t.1), (λ e. let z : true ≡ false = cc in cc))
+        | inr t ↦ ((λ e. let z : true ≡ false = cc in cc), (λ _. t.1))
       ]
 
-    -- the best after this turn, with the counts stepped on
-    turn : {left' : List ℕ} {k' : JobsLeft} {r : Split} → Turned r → Stepped q l left k left' k' → Searching q second left' r k'
-    turn {left'} {k'} t (same, (front, (rest, (summed, one_more)))) =
-        let e : k'.index ≡ suc k.index = one_more ∙ add-one k.index in
+  module _ {x : Cost} where
+    -- the cost of both cutters
+    told : (best : Answer Split) → Some x ≡ cost_answer q.goal (cost_upto P s best k.index) → (f k.index ≡ some (number_of x)) × (x ≡ cost_in q.goal (number_of x))
+    told best e =
+        let (d, u, x-is) = answer_some q.goal (cost_upto P s best k.index) e in
+        let n = number_is q.goal d x-is in
+        rw n ((only_some (not (exceeds (A b w) best)) (f k.index) d u).1, x-is)
+
+    -- which is in the unit of the split held
+    pub may_compare : (best : Answer Split) → Holds q s k.index best → Some x ≡ cost_answer q.goal (cost_upto P s best k.index)
+        → IfSome best (λ r. in_seconds r.cost ≡ in_seconds x)
+    may_compare None h e = tt
+    may_compare (Some r) h e = one_unit q.goal (number_of r.cost) h.in_unit (number_of x) (told (Some r) e).1
+
+    -- better than the split held, if one is
+    pub turn_better : (best : Answer Split) → Holds q s k.index best → Some x ≡ cost_answer q.goal (cost_upto P s best k.index) → is_better best x k.left ≡ true
+        → Holds q s (suc k.index) (Some (record { cost = x; first = k }))
+    turn_better None h e better =
+        let (g, unit) = told None e in
+        record { held = held_first f cs k.index h g; in_unit = unit; left_of = w }
+    turn_better (Some r) h e better =
+        let (g, unit) = told (Some r) e in
         record {
-          counting = counting_more g.valid g.prepared w.counting h same front rest summed e;
-          held = rw e t.holds;
-          is_split = t.is_one;
+          held = held_new f cs k.index r.first.index (number_of r.cost) h.held g (elim (decided (number_of x) (number_of r.cost) (is_before k.left r.first.left) better) [
+            | inl t ↦ inl t
+            | inr t ↦ inr (t.0, (precedes r h.left_of).0 t.1)
+          ]);
+          in_unit = unit;
+          left_of = w;
         }
 
-    module _ (cost : c ≡ cost_in q.goal (cost_upto (problem q) second n k.index)) where
-      abbrev a : ℕ
-      a = alone (problem q) k.index
-
-      told : number_of c ≡ cost_upto (problem q) second n k.index
-      told = number_is q.goal (cost_upto (problem q) second n k.index) cost
-
-      -- passed over: the first cutter alone costs more than the best so far, or both do
-      pub search_passed : a ≤ f k.index → ltb n (number_of c) ≡ true → {left' : List ℕ} {k' : JobsLeft} → Stepped q l left k left' k' → Searching q second left' best k'
-      search_passed low dearer =
-          let d = ltb-true n (number_of c) dearer in
-          turn (elim (below_or_not n a) [
-            | inl b ↦ turned_dearer (omega arith)
-            | inr b ↦ (let e = rw (le-ltb n a b) at told in turned_dearer (omega (arith, e)))
-          ])
-
-      -- compared: the first cutter alone does not
-      pub search_more : ltb n (number_of c) ≡ false → {r : Split} → r ≡ first_of q.kinds best new → {left' : List ℕ} {k' : JobsLeft}
-          → Stepped q l left k left' k' → Searching q second left' r k'
-      search_more not_dearer better =
-          let d = ltb-false n (number_of c) not_dearer in
-          let whole : a ≤ n = elim (below_or_not n a) [ inl b ↦ (let e = rw (lt-ltb n a b) at told in absurd (omega (arith, e))) | inr b ↦ b ] in
-          turn (rw better (turned (rw (le-ltb n a whole) at cost)))
-
-  -- at its end: the split taken
-  pub search_done : {left : List ℕ} {best : Split} {k : JobsLeft} → Searching q second left best k → l.size.block ≤ k.index → Best q second best
-  search_done {left} {best} {k} w h =
-      let e = counting_done g.valid g.prepared w.counting h in
-      record {
-        taken = held_taken (problem q) second best.index (number_of best.cost) (rw e at w.held) (proper q g.valid)
-            (λ d t. (taken_fits q g.valid second g.second_in d t).2);
-        in_unit = w.is_split.in_unit;
-        counts_are = w.is_split.counts_are;
-        jobs_are = w.is_split.jobs_are;
-      }
-
--- ---- a turn's split: what its cost is found from, and that it is found for all queues alike
-module _ {q : Queue} {l : Layout} {table : List ℕ} {second : ℕ} (g : Given q l table second) {left : List ℕ} {best : Split} {k : JobsLeft}
-    (w : Searching q second left best k) (h : k.index < l.size.block) {b : Bench}
-    (e : b ≡ record { size = l.size; weight = weigh (weight q) (take l.size.kinds l.counts); start = q.start; second = second; forbids = l.forbids }) where
-  pub splitting : SplitsAt q l table left l.counts l.strides l.blocks q.gaps q.goal b k
-  splitting = splits g (left_here g.valid g.prepared w.counting h) w.counting.summed e
-
-  pub told_cost : {x : Cost}
-      → ((q' : Queue) (l' : Layout) → SplitsAt q' l' table left l.counts l.strides l.blocks q.gaps q.goal b k
-      → x ≡ cost_in q'.goal (cost_upto (problem q') b.second (number_of best.cost) k.index))
-      → x ≡ cost_in q.goal (cost_upto (problem q) second (number_of best.cost) k.index)
-  told_cost told =
-      told q l splitting
-      ∙ ap (λ (b' : Bench). cost_in q.goal (cost_upto (problem q) b'.second (number_of best.cost) k.index)) e
-
-  pub alone_within : alone (problem q) k.index ≤ cost_at (problem q) second k.index
-  alone_within = omega (arith, alone_low splitting, ap (λ (b' : Bench). cost_at (problem q) b'.second k.index) e)
+    -- or not
+    pub turn_worse : (best : Answer Split) → Holds q s k.index best → Some x ≡ cost_answer q.goal (cost_upto P s best k.index) → is_better best x k.left ≡ false
+        → Holds q s (suc k.index) best
+    turn_worse None h e worse = cc
+    turn_worse (Some r) h e worse =
+        let (g, unit) = told (Some r) e in
+        record {
+          held = held_on f cs k.index r.first.index (number_of r.cost) h.held (λ d g'.
+              let same = some_eq d (number_of x) (sym g' ∙ g) in
+              elim (refused (number_of x) (number_of r.cost) (is_before k.left r.first.left) worse) [
+                | inl t ↦ inl (omega arith)
+                | inr t ↦ inr (t.0 ∙ sym same, (precedes r h.left_of).1 t.1)
+              ]);
+          in_unit = h.in_unit;
+          left_of = h.left_of;
+        }

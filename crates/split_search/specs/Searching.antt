@@ -1,54 +1,47 @@
 -- The search of the best split over a filled table.
-use Rattle.std.specs.Prelude.{cond, List, ◌≡◌, ℕ, ◌-◌, ◌^◌, ◌≤◌, ltb, take, replicate}
+use Rattle.std.specs.Prelude.{Bool, true, false, not, ◌&&◌, ◌||◌, List, ◌≡◌, ℕ, ltb, Some, None, Option as Answer}
+use Rattle.std.proofs.Math.Option.{Option, none, some}
+use Rattle.units.specs.declared.Cost.{Cost}
 use Rattle.units.specs.Costs.{cost_in, number_of}
 use Rattle.queue.specs.declared.Queue.{Queue}
-use Rattle.queue.specs.Record.{weight}
-use Rattle.sequencing.specs.Lists.{sum, weigh}
-use Rattle.sequencing.specs.Problem.{Problem, AllPermitted}
-use Rattle.sequencing.specs.States.{all_left}
+use Rattle.sequencing.specs.Problem.{Problem}
+use Rattle.sequencing.specs.Least.{only}
 use Rattle.sequencing.specs.Recursion.{cost_to_go}
-use Rattle.sequencing.specs.Entries.{k_at, stored}
+use Rattle.sequencing.specs.Entries.{k_at}
 use Rattle.problem.specs.OfQueue.{problem}
-use Rattle.splitting.specs.Scan.{is_before, cost_at, TakenAt}
-use Rattle.jobs_left.specs.declared.JobsLeft.{JobsLeft}
-use Rattle.jobs_left.specs.Steps.{LeftAt}
-use Rattle.layout.specs.declared.Layout.{Layout}
-use Rattle.solver.specs.Looking.{LooksAt}
+use Rattle.splitting.specs.Taken.{counts_cost, taken_cost, taken_counts}
+use Rattle.splitting.specs.Scan.{is_before}
+use Rattle.jobs_left.specs.Steps.{LeftOf}
 use Rattle.split_search.specs.declared.Split.{Split}
-use Rattle.split_search.specs.declared.Bench.{Bench}
 
--- what the first cutter costs alone in the split whose counts have index i, as a table holds it
-abbrev pub alone : Problem → (i : ℕ) → ℕ
-alone P i = stored (cost_to_go P P.start (k_at P i))
+-- a cost as it is answered, in the goal's unit
+abbrev pub cost_answer : (goal : ℕ) → Option ℕ → Answer Cost
+cost_answer goal none = None
+cost_answer goal (some c) = Some (cost_in goal c)
 
--- the cost of that split; where the first cutter costs more than m alone, only that
-abbrev pub cost_upto : Problem → (s m i : ℕ) → ℕ
-cost_upto P s m i = cond (ltb m (alone P i)) (alone P i) (cost_at P s i)
+-- a cost above that of the split held, if one is
+abbrev pub exceeds : Option ℕ → (held : Answer Split) → Bool
+exceeds none held = false
+exceeds (some c) None = false
+exceeds (some c) (Some r) = ltb (number_of r.cost) c
 
--- what the cost of one split is found from: a look at the first cutter's counts k, and what is the same for all splits
-pub record SplitsAt (q : Queue) (l : Layout) (table left counts strides blocks gaps : List ℕ) (goal : ℕ) (b : Bench) (k : JobsLeft) : Type 0 where
-  pub looks : LooksAt q l table left strides blocks gaps b.forbids goal k
-  pub counts_are : counts ≡ l.counts
-  pub size_is : b.size ≡ l.size
-  pub weight_is : b.weight ≡ weigh (weight q) (all_left (problem q))
-  pub start_is : b.start ≡ q.start
-  pub second_in : b.second ≤ q.kinds
-  pub permitted : AllPermitted (problem q)
+-- the cost of the split whose counts have index i; none where the first cutter alone costs more than the split held
+abbrev pub cost_upto : Problem → (s : ℕ) → (held : Answer Split) → (i : ℕ) → Option ℕ
+cost_upto P s held i = only (not (exceeds (cost_to_go P P.start (k_at P i)) held)) (counts_cost P s (k_at P i))
 
--- no split yet, which costs more than any
-abbrev pub no_split : (goal : ℕ) → Split
-no_split goal = record { cost = cost_in goal (2 ^ 64 - 1); index = 0; jobs = 0; counts = replicate 5 0 }
+-- whether a split is better than the one held, if one is: it costs less, or as much and its counts come before
+abbrev pub is_better : (held : Answer Split) → Cost → (counts : List ℕ) → Bool
+is_better None cost counts = true
+is_better (Some r) cost counts = ltb (number_of cost) (number_of r.cost) || (not (ltb (number_of r.cost) (number_of cost)) && is_before counts r.first.left)
 
--- the better of two splits: that of the lower cost, and of equal costs that with 02's smaller counts
-abbrev pub first_of : (kinds : ℕ) (held next : Split) → Split
-first_of kinds held next =
-    cond (ltb (number_of next.cost) (number_of held.cost)) next
-    (cond (ltb (number_of held.cost) (number_of next.cost)) held
-    (cond (is_before (take kinds next.counts) (take kinds held.counts)) next held))
-
--- the split taken, as it is answered: its cost in the goal's unit, and the first cutter's counts with their index and how many they are
+-- the split taken, as it is answered: its cost in the goal's unit, and the first cutter's counts with their index and their sums
 pub record Best (q : Queue) (second : ℕ) (r : Split) : Type 0 where
-  pub taken : TakenAt (problem q) second r.index (number_of r.cost)
+  pub cost_is : taken_cost (problem q) second ≡ some (number_of r.cost)
   pub in_unit : r.cost ≡ cost_in q.goal (number_of r.cost)
-  pub counts_are : LeftAt (problem q) r.counts r.index
-  pub jobs_are : r.jobs ≡ sum (k_at (problem q) r.index)
+  pub counts_are : k_at (problem q) r.first.index ≡ taken_counts (problem q) second
+  pub left_of : LeftOf (problem q) r.first
+
+-- the answer: that split, or none where no split is permitted
+abbrev pub IsBest : (q : Queue) (second : ℕ) → Answer Split → Type 0
+IsBest q second None = taken_cost (problem q) second ≡ none
+IsBest q second (Some r) = Best q second r

@@ -2,20 +2,23 @@
 #![tactic(auto)]
 
 ghost use Rattle.std.specs.Prelude.{◌≡◌, ◌≤◌, T as Is, length};
-ghost use Rattle.queue.specs.Record.{Valid};
+ghost use Rattle.fields.specs.Fields.{all};
+ghost use Rattle.queue.specs.Record.{Valid, window_pairs};
 ghost use Rattle.sequencing.specs.Entries.{entries};
 ghost use Rattle.problem.specs.OfQueue.{problem};
 ghost use Rattle.splitting.specs.Taken.{taken_cost};
 ghost use Rattle.splitting.specs.Covers.{covering, covers};
-ghost use Rattle.layout.specs.Prepared.{Prepared};
 ghost use Rattle.best_order.specs.Endings.{answer_of, buffer_of, table_of, LeavesTable};
 ghost use Rattle.best_split.specs.Endings.{bench_verdict, divided, divided_in, split_ending_of};
 ghost use Rattle.best_split.specs.Splitting.{Splitting};
 
-use layout::Layout;
-use queue::Queue;
-use refusal::{Answer, Reason, Verdict};
+use fields::check;
+use layout::Setup;
+use queue::{Queue, Window};
+use refusal::Reason;
+use solver::Filled;
 use split_plan::{Cutter, SplitPlan};
+use split_search::Bench;
 
 // Whether a kind's allowed places cover places 1 to `jobs`; without jobs any do.
 fn is_covering(first: u8, last: u8, jobs: u32) -> bool
@@ -30,120 +33,110 @@ fn is_covering(first: u8, last: u8, jobs: u32) -> bool
     jobs <= last as u32
 }
 
+// Whether the places allowed to each of some kinds cover places 1 to `jobs`.
+fn all_cover(windows: &[Window], jobs: u32) -> bool
+    ensures { result ≡ all (covering jobs) (window_pairs windows.now) }
+{
+    windows
+        .iter()
+        .all(|window| is_covering(window.first, window.last, jobs))
+}
+
 // Whether the shift and the allowed places of every kind permit each job at each place: no 19.
-fn covers_all(queue: Queue) -> bool
-    requires { Valid queue }
-    ensures { result ≡ covers queue }
+fn covers_all(queue: &Queue) -> bool
+    requires { Valid queue.now }
+    ensures { result ≡ covers queue.now }
 {
     if queue.max_shift + 1 < queue.jobs {
         return false;
     }
-    let firsts = queue.first_places;
-    let lasts = queue.last_places;
-    let kinds = queue.kinds as usize;
-    let mut kind: usize = 0;
-    while kind < kinds {
-        if !is_covering(firsts[kind], lasts[kind], queue.jobs) {
-            return false;
-        }
-        kind = kind + 1;
-    }
-    true
+    all_cover(&queue.windows[..queue.kinds as usize], queue.jobs)
 }
 
 // What two cutters ask of a queue and of the second's start kind: 19, then 20.
-fn judge_bench(queue: Queue, second: u32) -> Verdict
-    requires { Valid queue }
-    ensures { result ≡ bench_verdict queue second }
+fn judge_bench(queue: &Queue, second: u32) -> Result<(), Reason>
+    requires { Valid queue.now }
+    ensures { result ≡ bench_verdict queue.now second }
 {
-    let covered = covers_all(queue);
-    let in_range = second <= queue.kinds;
-    if !covered {
-        return Verdict::Refused(Reason::Uncovered);
-    }
-    if !in_range {
-        return Verdict::Refused(Reason::SecondStart);
-    }
-    Verdict::Accepted
+    check(covers_all(queue), Reason::Uncovered)?;
+    check(second <= queue.kinds, Reason::SecondStart)
 }
 
 // The table filled, and 17 or the split plan written, where there is room for both.
 fn make_split(
-    queue: Queue,
-    layout: Layout,
+    setup: &Setup,
     second: u32,
     table: &mut [u64],
     buffer: &mut [u8],
-) -> Answer
-    requires { Valid queue × (Prepared queue layout × (Is (covers queue) × ((second ≤ queue.kinds) × ((entries (problem queue) ≤ length table.old) × (77 ≤ length buffer.old))))) }
-    ensures value { result ≡ answer_of (divided queue second (taken_cost (problem queue) second)) }
-    ensures leaves_table { LeavesTable (table_of (divided queue second (taken_cost (problem queue) second))) table.old table.new }
-    ensures buffer_after { buffer.new ≡ buffer_of (divided queue second (taken_cost (problem queue) second)) buffer.old }
+) -> Result<usize, Reason>
+    requires { Is (covers setup.now.queue) × ((second ≤ setup.now.queue.kinds) × ((entries (problem setup.now.queue) ≤ length table.old) × (77 ≤ length buffer.old))) }
+    ensures value { result ≡ answer_of (divided setup.now.queue second (taken_cost (problem setup.now.queue) second)) }
+    ensures leaves_table { LeavesTable (table_of (divided setup.now.queue second (taken_cost (problem setup.now.queue) second))) table.old table.new }
+    ensures buffer_after { buffer.new ≡ buffer_of (divided setup.now.queue second (taken_cost (problem setup.now.queue) second)) buffer.old }
 {
-    filling::fill(queue, layout, table);
-    let split = split_search::best_split(queue, layout, table, second as usize);
-    let best = split.cost;
-    let cost = best.number();
-    if cost == next_states::NONE {
-        return Answer::Refused(Reason::NoOrder);
-    }
-    let orders = split_search::split_orders(queue, layout, table, second as usize, split);
-    let size = layout.size;
-    let jobs = split.jobs;
-    let rest = size.jobs - jobs;
+    filling::fill(setup, table);
+    let bench = Bench::new(Filled::new(setup, table), second as usize);
+    let split = bench.best_split().ok_or(Reason::NoOrder)?;
+    let orders = bench.split_orders(&split);
+    let jobs = split.first.jobs;
+    let rest = setup.queue.jobs - jobs;
     let order = orders.first;
     let others = orders.second;
     let plan = SplitPlan {
-        goal: queue.goal,
-        cost,
+        goal: setup.queue.goal,
+        cost: split.cost.number(),
         first: Cutter { jobs, order },
         second: Cutter {
             jobs: rest,
             order: others,
         },
     };
-    Answer::Planned(split_writer::write_split(buffer, plan))
+    Ok(split_writer::write_split(buffer, plan))
 }
 
 // Splits a queue that two cutters can have: 15, 16, 17, or the split plan.
-fn split_lent(queue: Queue, second: u32, table: &mut [u64], buffer: &mut [u8]) -> Answer
+fn split_lent(
+    queue: Queue,
+    second: u32,
+    table: &mut [u64],
+    buffer: &mut [u8],
+) -> Result<usize, Reason>
     requires { Valid queue × (Is (covers queue) × (second ≤ queue.kinds)) }
     ensures value { result ≡ answer_of (divided_in queue second (length table.old) (length buffer.old)) }
     ensures leaves_table { LeavesTable (table_of (divided_in queue second (length table.old) (length buffer.old))) table.old table.new }
     ensures buffer_after { buffer.new ≡ buffer_of (divided_in queue second (length table.old) (length buffer.old)) buffer.old }
 {
-    let layout = layout::prepare(queue);
-    let needed = layout::needed_entries(layout.size);
-    let verdict = planner::judge_room(needed, table.len(), buffer.len());
-    match verdict {
-        Verdict::Refused(why) => Answer::Refused(why),
-        Verdict::Accepted => make_split(queue, layout, second, table, buffer),
-    }
+    let setup = layout::prepare(queue);
+    planner::judge_room(setup.needed_entries(), table.len(), buffer.len())?;
+    make_split(&setup, second, table, buffer)
 }
 
 // Splits a queue that was read: 19, 20, then what is lent.
-fn split_record(queue: Queue, second: u32, table: &mut [u64], buffer: &mut [u8]) -> Answer
+fn split_record(
+    queue: Queue,
+    second: u32,
+    table: &mut [u64],
+    buffer: &mut [u8],
+) -> Result<usize, Reason>
     requires { Valid queue }
     ensures value { result ≡ answer_of (split_ending_of queue second (length table.old) (length buffer.old)) }
     ensures leaves_table { LeavesTable (table_of (split_ending_of queue second (length table.old) (length buffer.old))) table.old table.new }
     ensures buffer_after { buffer.new ≡ buffer_of (split_ending_of queue second (length table.old) (length buffer.old)) buffer.old }
 {
-    let verdict = judge_bench(queue, second);
-    match verdict {
-        Verdict::Refused(why) => Answer::Refused(why),
-        Verdict::Accepted => split_lent(queue, second, table, buffer),
-    }
+    judge_bench(&queue, second)?;
+    split_lent(queue, second, table, buffer)
 }
 
 // Splits a queue message over two cutters; `second` is the second cutter's start kind. Every refusal but 17 changes nothing; bytes past the split plan keep
 // what they had.
-pub fn split(message: &[u8], second: u32, table: &mut [u64], buffer: &mut [u8]) -> Answer
+pub fn split(
+    message: &[u8],
+    second: u32,
+    table: &mut [u64],
+    buffer: &mut [u8],
+) -> Result<usize, Reason>
     ensures { Splitting message.now second table.old buffer.old table.new buffer.new result }
 {
-    let reading = queue_reader::read_queue(message);
-    let verdict = reading.verdict;
-    match verdict {
-        Verdict::Refused(why) => Answer::Refused(why),
-        Verdict::Accepted => split_record(reading.queue, second, table, buffer),
-    }
+    let queue = queue_reader::read_queue(message)?;
+    split_record(queue, second, table, buffer)
 }

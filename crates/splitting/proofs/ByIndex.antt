@@ -2,7 +2,7 @@
 -- is followed from the index of the split taken are its two orders.
 -- Assumes nothing.
 use mathlib.Core.List.{List, [], ◌∷◌}
-use mathlib.Core.Option.{none, some}
+use mathlib.Core.Option.{some}
 use mathlib.Core.Path.{◌≡◌, refl, sym, ap, ◌∙◌}
 use Prim.Native.Nat.{ℕ, zero, suc, ◌+◌, ◌-◌, ◌≤◌, ◌<◌}
 use native.Mathlib.Nat.{mul-add, mul-suc}
@@ -14,14 +14,13 @@ use Rattle.sequencing.specs.States.{K, all_left, IsLeft}
 use Rattle.sequencing.specs.Least.{arg_least}
 use Rattle.sequencing.specs.Recursion.{cost_to_go, choice}
 use Rattle.sequencing.specs.Following.{walk_by, by_hand_in_upto}
-use Rattle.sequencing.specs.Entries.{size, index, digits, k_at, block, stored}
+use Rattle.sequencing.specs.Entries.{size, index, digits, k_at, block}
 use Rattle.sequencing.proofs.AllJobs.{at_all, length_all, below_all}
-use Rattle.sequencing.proofs.Options.{none_some}
 use Rattle.sequencing.proofs.Radix.{digits_index, index_digits}
 use Rattle.sequencing.proofs.Entries.{left_digits}
 use Rattle.splitting.specs.Splits.{of_both}
-use Rattle.splitting.specs.Taken.{both, counts_cost, taken_cost, first_order, second_order}
-use Rattle.splitting.specs.Scan.{others, cost_at, TakenAt}
+use Rattle.splitting.specs.Taken.{both, counts_cost, taken_cost, taken_counts, first_order, second_order}
+use Rattle.splitting.specs.Scan.{others}
 use Rattle.splitting.proofs.Counts.{at_others, others_left}
 use Rattle.splitting.proofs.Best.{taken}
 use Rattle.splitting.proofs.Table.{looked_up, looks_found, first_order_lem, second_order_lem}
@@ -89,19 +88,16 @@ module _ (P : Problem) where
     sum_others = rw others_at (rest_sums (all_left P) n (others P n) rest).1
 
     -- the cost, by two looks
-    pub cost_at_lem : AllPermitted P → (s : ℕ)
-        → cost_at P s i ≡ stored (both P.goal (cost_to_go P P.start (k_at P i)) (cost_to_go P s (k_at P (block P - 1 - i))))
-    cost_at_lem permitted s = rw others_at (ap stored (looked_up P permitted n l s))
+    pub looks_lem : AllPermitted P → (s : ℕ)
+        → counts_cost P s (k_at P i) ≡ both P.goal (cost_to_go P P.start (k_at P i)) (cost_to_go P s (k_at P (block P - 1 - i)))
+    looks_lem permitted s = rw others_at (looked_up P permitted n l s)
 
   -- ---- the split taken
 
-  module _ (permitted : AllPermitted P) (proper : Proper P) (s i c d : ℕ)
-      (in_block : i < block P) (t : TakenAt P s i d) (e : taken_cost P s ≡ some c) where
-    found : taken_cost P s ≡ none → ⊥
-    found g = none_some c (sym g ∙ e)
-
+  module _ (permitted : AllPermitted P) (proper : Proper P) (s i c : ℕ)
+      (in_block : i < block P) (counts : k_at P i ≡ taken_counts P s) (e : taken_cost P s ≡ some c) where
     reached : counts_cost P s (k_at P i) ≡ some c
-    reached = ap (counts_cost P s) (t.counts_are found) ∙ (taken P proper s c e).reached
+    reached = ap (counts_cost P s) counts ∙ (taken P proper s c e).reached
 
     -- both looks find something
     pub taken_looks : (a b : ℕ) × (cost_to_go P P.start (k_at P i) ≡ some a) × (cost_to_go P s (k_at P (block P - 1 - i)) ≡ some b)
@@ -113,7 +109,7 @@ module _ (P : Problem) where
         → (y : ℕ) → (0 < sum (k_at P i) → y ≡ arg_least (choice P P.start (k_at P i)) P.N)
         → by_hand_in_upto P m (k_at P i) (walk_by P (sum (k_at P i)) y (k_at P i)) ≡ first_order P s
     unfolding first_order
-    first_followed m upto y h = rw (← (t.counts_are found)) (first_order_lem P permitted (k_at P i) (left_digits P i) s c reached m upto y h)
+    first_followed m upto y h = rw (← counts) (first_order_lem P permitted (k_at P i) (left_digits P i) s c reached m upto y h)
 
     -- the second's: from the index mirrored, each kind up to its last job
     pub second_followed : (m : List ℕ) → ((x : ℕ) → 1 ≤ x → x ≤ P.N → at m x ≡ K P x)
@@ -122,4 +118,4 @@ module _ (P : Problem) where
     unfolding second_order
     second_followed m upto y h =
         let e' = others_at i in_block in
-        rw (e', ← (t.counts_are found)) (second_order_lem P permitted (k_at P i) (left_digits P i) s c reached m upto y (rw e' at h))
+        rw (e', ← counts) (second_order_lem P permitted (k_at P i) (left_digits P i) s c reached m upto y (rw e' at h))

@@ -1,13 +1,14 @@
 -- A queue with the same kinds of jobs in which everything is permitted.
 -- Assumes nothing.
 use Prim.Native.Nat.{ℕ, ◌-◌, ◌≤◌}
-use mathlib.Core.Path.{◌≡◌, refl}
+use mathlib.Core.Path.{◌≡◌, refl, ap}
 use native.Mathlib.Omega.{arith}
 use lib.Dec.{leb, le→leb}
 use lib.ListN.{replicate, get_or-replicate}
 use Rattle.gaps.specs.Gaps.{gap_index}
 use Rattle.queue.specs.declared.Queue.{Queue}
-use Rattle.queue.specs.Record.{gap, first_place, last_place, kind, Valid}
+use Rattle.queue.specs.declared.Window.{Window}
+use Rattle.queue.specs.Record.{no_window, gap, first_place, last_place, kind, Valid}
 use Rattle.sequencing.specs.Problem.{AllPermitted}
 use Rattle.sequencing.specs.States.{jobs_of, all_left}
 use Rattle.problem.specs.PlaceRule.{earliest, latest}
@@ -15,6 +16,10 @@ use Rattle.problem.specs.OfQueue.{problem}
 use Rattle.problem.specs.Unforbidden.{NoNever}
 use Rattle.problem.proofs.Tests.{and}
 use Rattle.problem.proofs.Rule.{allowed_between, jobs_is}
+
+-- places 1 to 60
+abbrev all_places : Window
+all_places = record { first = 1; last = 60 }
 
 module _ (q : Queue) where
   -- shift 60, places 1 to 60, gaps 0
@@ -26,8 +31,7 @@ module _ (q : Queue) where
     start = q.start;
     gaps = replicate 30 0;
     weights = q.weights;
-    first_places = replicate 5 1;
-    last_places = replicate 5 60;
+    windows = replicate 5 all_places;
     jobs = q.jobs;
     job_kinds = q.job_kinds;
   }
@@ -41,10 +45,10 @@ module _ (q : Queue) where
   gap_none i j l m u = get_or-replicate 30 (gap_index i j) 0 0 (omega arith)
 
   first_one : (j : ℕ) → 1 ≤ j → j ≤ 5 → first_place freed j ≡ 1
-  first_one j l u = get_or-replicate 5 (j - 1) 1 0 (omega arith)
+  first_one j l u = ap (λ (w : Window). w.first) (get_or-replicate 5 (j - 1) all_places no_window (omega arith))
 
   last_sixty : (j : ℕ) → 1 ≤ j → j ≤ 5 → last_place freed j ≡ 60
-  last_sixty j l u = get_or-replicate 5 (j - 1) 60 0 (omega arith)
+  last_sixty j l u = ap (λ (w : Window). w.last) (get_or-replicate 5 (j - 1) all_places no_window (omega arith))
 
   module _ (v : Valid q) where
     pub freed_valid : Valid freed

@@ -1,17 +1,13 @@
 -- The contract of asking how much table to lend, from the answer; and the answer fits 64 bits.
 -- Assumes nothing.
+use Rattle.std.specs.Prelude.{Ok, Err}
 use Prim.Native.Nat.{ℕ, ◌^◌, ◌≤◌, ◌<◌}
 use mathlib.Core.List.{List}
 use mathlib.Core.Path.{◌≡◌, refl, ap, ◌∙◌}
 use native.Mathlib.Omega.{arith}
 use lib.ListN.{length, take}
 use Rattle.refusal.specs.declared.Reason.{Reason}
-use Rattle.refusal.specs.declared.Verdict.{Verdict}
-use Rattle.refusal.specs.declared.Verdict.TheVariants.{Accepted, Refused as NotAccepted}
-use Rattle.refusal.specs.declared.Answer.TheVariants.{Planned, Refused}
-use Rattle.refusal.specs.declared.TableSize.{TableSize}
-use Rattle.refusal.specs.declared.TableSize.TheVariants.{Known, Refused as NotKnown}
-use Rattle.refusal.specs.Answers.{answer_number, entries_number, most_number, value_of}
+use Rattle.refusal.specs.Answers.{answer_number, entries_number, most_number, value_of, TableSize, Verdict, Accepted}
 use Rattle.refusal.proofs.Reasons.{reason_range, of_message_needed}
 use Rattle.queue.specs.declared.Queue.{Queue}
 use Rattle.queue.specs.Record.{Valid}
@@ -52,11 +48,11 @@ largest q v = record {
 -- ---- how asking ends
 
 module _ (s : List ℕ) where
-  pub size_refused : (r : Reason) → (read_queue s).verdict ≡ NotAccepted r → table_size (read_queue s) ≡ NotKnown r
+  pub size_refused : (r : Reason) → (read_queue s).verdict ≡ Err r → table_size (read_queue s) ≡ Err r
   unfolding table_size
   size_refused r e = rw e
 
-  pub size_known : (read_queue s).verdict ≡ Accepted → table_size (read_queue s) ≡ Known (sizes (read_queue s).queue)
+  pub size_known : (read_queue s).verdict ≡ Accepted → table_size (read_queue s) ≡ Ok (sizes (read_queue s).queue)
   unfolding table_size
   size_known e = rw e
 
@@ -67,21 +63,21 @@ module _ (s : List ℕ) where
 
   -- ---- planning the same message
 
-  module _ (n room b : ℕ) (planned : Planned b ≡ answer_of (ending (read_queue s) n room)) where
-    not_refused : (r : Reason) → Planned b ≡ Refused r → ⊥
+  module _ (n room b : ℕ) (planned : Ok b ≡ answer_of (ending (read_queue s) n room)) where
+    not_refused : (r : Reason) → Ok b ≡ Err r → ⊥
     not_refused r e = omega (arith, ap answer_number e, reason_range r)
 
     -- a planned message was accepted, and what was lent is enough
     was_accepted : (v : Verdict) → (read_queue s).verdict ≡ v → (read_queue s).verdict ≡ Accepted
-    was_accepted Accepted e = e
-    was_accepted (NotAccepted r) e = absurd (not_refused r (planned ∙ ap answer_of (message_refused s n room r e)))
+    was_accepted (Ok tt) e = e
+    was_accepted (Err r) e = absurd (not_refused r (planned ∙ ap answer_of (message_refused s n room r e)))
 
     was_enough : (read_queue s).verdict ≡ Accepted → (v : Verdict) → room_verdict (entries (problem (read_queue s).queue)) n room ≡ v
         → (77 ≤ room) × (entries (problem (read_queue s).queue) ≤ n)
-    was_enough a Accepted e = room_enough (entries (problem (read_queue s).queue)) n room e
-    was_enough a (NotAccepted r) e = absurd (not_refused r (planned ∙ ap answer_of (message_accepted s n room a ∙ room_refused (read_queue s).queue n room r e)))
+    was_enough a (Ok tt) e = room_enough (entries (problem (read_queue s).queue)) n room e
+    was_enough a (Err r) e = absurd (not_refused r (planned ∙ ap answer_of (message_accepted s n room a ∙ room_refused (read_queue s).queue n room r e)))
 
-  reported : (table buffer table' buffer' : List ℕ) (b : ℕ) → Planning s table buffer table' buffer' (Planned b)
+  reported : (table buffer table' buffer' : List ℕ) (b : ℕ) → Planning s table buffer table' buffer' (Ok b)
       → (read_plan (take b buffer')).plan.feasible_states ≤ value_of (most_number (table_size (read_queue s)))
   reported table buffer table' buffer' b p =
       let q = (read_queue s).queue in
@@ -102,10 +98,10 @@ module _ (s : List ℕ) where
   -- both numbers fit
   pub size_fits : (v : Verdict) → (read_queue s).verdict ≡ v → (entries_number (table_size (read_queue s)) < 2 ^ 64) × (most_number (table_size (read_queue s)) < 2 ^ 64)
   unfolding sizes
-  size_fits Accepted e =
+  size_fits (Ok tt) e =
       let q = (read_queue s).queue in
       let small = entries_small q (accepted_valid s e) in
       rw (size_known e) (omega (arith, small), omega (arith, small, most_entries (problem q)))
-  size_fits (NotAccepted r) e =
+  size_fits (Err r) e =
       let none = of_message_needed r (queue_of_message r (queue_refusal s r e)) in
       rw (size_refused r e) (omega (arith, none, reason_range r), omega (arith, none, reason_range r))

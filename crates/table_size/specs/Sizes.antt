@@ -1,11 +1,9 @@
 -- How much table to lend: the two numbers of a queue, and how asking for them ends.
-use Rattle.refusal.specs.declared.Verdict.{Verdict}
-use Rattle.refusal.specs.declared.Verdict.TheVariants.{Accepted, Refused as NotAccepted}
+use Rattle.queue.specs.Reading.{Reading}
+use Rattle.refusal.specs.Answers.{TableSize, Verdict}
+use Rattle.std.specs.Prelude.{Ok, Err}
 use Rattle.refusal.specs.declared.Sizes.{Sizes}
-use Rattle.refusal.specs.declared.TableSize.{TableSize}
-use Rattle.refusal.specs.declared.TableSize.TheVariants.{Known, Refused}
 use Rattle.queue.specs.declared.Queue.{Queue}
-use Rattle.queue.specs.declared.Reading.{Reading}
 use Rattle.sequencing.specs.States.{all_left}
 use Rattle.sequencing.specs.Entries.{entries}
 use Rattle.problem.specs.OfQueue.{problem}
@@ -17,8 +15,8 @@ sizes q = record { entries = entries (problem q); most_feasible = most_feasible 
 
 -- the queue reader's refusal, or else both numbers
 abbrev pub if_accepted : Verdict → Sizes → TableSize
-if_accepted Accepted s = Known s
-if_accepted (NotAccepted r) s = Refused r
+if_accepted (Ok tt) s = Ok s
+if_accepted (Err r) s = Err r
 
 -- how asking of a message that was read so ends
 unfoldable pub table_size : Reading → TableSize

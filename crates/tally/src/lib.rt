@@ -5,19 +5,19 @@ ghost use Rattle.std.specs.Prelude.{◌≡◌};
 ghost use Rattle.best_order.specs.Planning.{Planning};
 ghost use Rattle.tally.specs.Tally.{raised, tallied};
 
-use refusal::Answer;
+use refusal::Reason;
 
 // How many calls ended in a plan, and how many in a refusal.
-#[derive(Clone, Copy)]
+#[derive(Clone, Copy, Debug, PartialEq, Eq)]
 pub struct Tally {
     pub plans: u32,
     pub refusals: u32,
 }
 
 // An answer, and the tally with it.
-#[derive(Clone, Copy)]
+#[derive(Clone, Copy, Debug, PartialEq, Eq)]
 pub struct Tallied {
-    pub answer: Answer,
+    pub answer: Result<usize, Reason>,
     pub tally: Tally,
 }
 
@@ -25,25 +25,24 @@ pub struct Tallied {
 fn one_more(count: u32) -> u32
     ensures { result ≡ raised count }
 {
-    if 4294967294 < count {
-        return count;
-    }
-    count + 1
+    count.saturating_add(1)
 }
 
-// The tally after an answer.
-fn add_answer(tally: Tally, answer: Answer) -> Tally
-    ensures { result ≡ tallied answer tally }
-{
-    match answer {
-        Answer::Planned(_) => Tally {
-            plans: one_more(tally.plans),
-            refusals: tally.refusals,
-        },
-        Answer::Refused(_) => Tally {
-            plans: tally.plans,
-            refusals: one_more(tally.refusals),
-        },
+impl Tally {
+    // The tally after an answer.
+    fn after(self, answer: Result<usize, Reason>) -> Tally
+        ensures { result ≡ tallied answer self }
+    {
+        match answer {
+            Ok(_) => Tally {
+                plans: one_more(self.plans),
+                ..self
+            },
+            Err(_) => Tally {
+                refusals: one_more(self.refusals),
+                ..self
+            },
+        }
     }
 }
 
@@ -53,9 +52,8 @@ pub fn plan_tallied(message: &[u8], table: &mut [u64], buffer: &mut [u8], tally:
     ensures tally_value { result.tally ≡ tallied result.answer tally }
 {
     let answer = planner::plan(message, table, buffer);
-    let after = add_answer(tally, answer);
     Tallied {
         answer,
-        tally: after,
+        tally: tally.after(answer),
     }
 }

@@ -3,7 +3,6 @@
 use Prim.Native.Nat.{ℕ, ◌+◌, max}
 use mathlib.Core.Bool.{Bool, true, false, cond}
 use mathlib.Core.Path.{◌≡◌, refl, sym, ap, ap₂, ◌∙◌}
-use native.Mathlib.Omega.{arith}
 use lib.Dec.{eqb}
 use borrow.Author.Tests.{ne_eqb}
 use Rattle.units.specs.declared.Seconds.{Seconds}
@@ -11,13 +10,6 @@ use Rattle.units.specs.declared.PupilSeconds.{PupilSeconds}
 use Rattle.units.specs.declared.Cost.{Cost}
 use Rattle.units.specs.declared.Cost.TheVariants.{InSeconds, InPupilSeconds}
 use Rattle.units.specs.Costs.{cost_in, number_of, in_seconds, together}
-
--- two units are not one
-pub apart : {a b : Cost} {s : Seconds} {p : PupilSeconds} → a ≡ InSeconds s → b ≡ InPupilSeconds p → in_seconds a ≡ in_seconds b → ⊥
-apart x y e =
-    let same : true ≡ false = sym (ap in_seconds x) ∙ e ∙ ap in_seconds y in
-    let z : ◌≡◌ {A = ℕ} 0 1 = cc in
-    omega arith
 
 -- under each goal
 pub as_seconds : {goal n : ℕ} {s : Seconds} → goal ≡ 1 → s.0 ≡ n → InSeconds s ≡ cost_in goal n
@@ -27,13 +19,6 @@ as_seconds one e = rw one (ap (λ (k : ℕ). InSeconds (record { 0 = k })) e)
 pub as_pupil_seconds : {goal n : ℕ} {p : PupilSeconds} → (goal ≡ 1 → ⊥) → p.0 ≡ n → InPupilSeconds p ≡ cost_in goal n
 unfolding cost_in
 as_pupil_seconds {goal} other e = rw (ne_eqb goal 1 other) (ap (λ (k : ℕ). InPupilSeconds (record { 0 = k })) e)
-
--- both together, in each unit
-pub both_seconds : {a b : Cost} {s t r : Seconds} → a ≡ InSeconds s → b ≡ InSeconds t → r.0 ≡ max s.0 t.0 → InSeconds r ≡ together a b
-both_seconds x y e = ap (λ (k : ℕ). InSeconds (record { 0 = k })) e ∙ sym (ap₂ together x y)
-
-pub both_pupil_seconds : {a b : Cost} {p t r : PupilSeconds} → a ≡ InPupilSeconds p → b ≡ InPupilSeconds t → r.0 ≡ p.0 + t.0 → InPupilSeconds r ≡ together a b
-both_pupil_seconds x y e = ap (λ (k : ℕ). InPupilSeconds (record { 0 = k })) e ∙ sym (ap₂ together x y)
 
 -- which number and which unit it is
 told : (goal n : ℕ) → (number_of (cost_in goal n) ≡ n) × (in_seconds (cost_in goal n) ≡ eqb goal 1)

@@ -1,11 +1,10 @@
--- `Running` is the invariant; the numbers left to read fall.
-use Rattle.std.proofs.Common.{◌-◌}
+-- The bytes stay, and `Running` says what was read and stored.
+use Rattle.std.proofs.Common.{◌≡◌}
 use Rattle.fields.specs.Fields.{field, within}
 use Rattle.fields.proofs.Loops.{Running}
 use Rattle.fields_reader.proofs.read_run.Given as goal
 
-abbrev pub invariant-loop-k : goal.invariant-loop-k
-invariant-loop-k l = Running (field 3 (within l.low l.high) l.why) l.bytes l.count l.at l.initial.out l.from l.out l.i l.k
-
-abbrev pub decreases-loop-k : goal.decreases-loop-k
-decreases-loop-k l = l.count - l.k
+abbrev pub invariant-loop-held : goal.invariant-loop-held
+invariant-loop-held g l =
+    (l.input.bytes ≡ l.initial.input.bytes)
+    × Running g.T.Held.held (field 3 (within l.low l.high) l.why) l.initial.input.bytes.now l.initial.input.at l.initial.out l.out l.input.at l.held-index

@@ -1,12 +1,10 @@
--- What is written so far is the first k of the values, and the values left to write fall.
-use Rattle.std.proofs.Common.{◌-◌}
-use Rattle.number.specs.Numbers.{encode}
-use Rattle.fields.specs.Fields.{part}
-use Rattle.fields.proofs.Writing.{Writing}
+-- What is left to write is the values from the next one on.
+use Rattle.std.proofs.Common.{drop}
+use Rattle.fields.specs.Fields.{encode_all}
+use Rattle.fields_writer.proofs.Writing.{Writing}
 use Rattle.fields_writer.proofs.write_run.Given as goal
 
-abbrev pub invariant-loop-k : goal.invariant-loop-k
-invariant-loop-k l = Writing encode (part l.from l.count l.values) l.count l.initial.buffer l.at l.buffer l.i l.k
-
-abbrev pub decreases-loop-k : goal.decreases-loop-k
-decreases-loop-k l = l.count - l.k
+abbrev pub invariant-loop-value : goal.invariant-loop-value
+invariant-loop-value g l =
+    let bytes = g.T.Held.numbers in
+    Writing (encode_all (bytes l.values)) l.initial.out (encode_all (bytes (drop l.value-index l.values))) l.out

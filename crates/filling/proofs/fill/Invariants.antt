@@ -1,10 +1,7 @@
--- `UpTo` is kept; the indices left fall.
-use Rattle.std.proofs.Common.{◌-◌}
+-- `UpTo` is kept: before each turn the indices so far are filled.
+use Rattle.std.proofs.Common.{◌≡◌}
 use Rattle.filling.proofs.UpTo.{UpTo}
 use Rattle.filling.proofs.fill.Given as goal
 
-abbrev pub invariant-loop-k : goal.invariant-loop-k
-invariant-loop-k l = UpTo l.queue l.fn.table l.table l.left l.feasible l.k l.here
-
-abbrev pub decreases-loop-k : goal.decreases-loop-k
-decreases-loop-k l = l.size.block - l.k.index
+abbrev pub invariant-loop : goal.invariant-loop
+invariant-loop l = (l.k.index ≡ l.counter) × UpTo l.setup.queue l.fn.table l.table l.feasible l.k l.here

@@ -1,10 +1,6 @@
--- `Spacing` is what the loop keeps; the kinds left fall.
-use Rattle.std.proofs.Common.{◌-◌}
+-- `Spacing` is what the loop keeps.
 use Rattle.layout.proofs.Strides.{Spacing}
 use Rattle.layout.proofs.set_blocks.Given as goal
 
 abbrev pub invariant-loop-j : goal.invariant-loop-j
 invariant-loop-j l = Spacing l.block l.kinds l.fn.blocks l.blocks l.at l.j
-
-abbrev pub decreases-loop-j : goal.decreases-loop-j
-decreases-loop-j l = l.kinds - l.j

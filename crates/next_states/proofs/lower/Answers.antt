@@ -16,24 +16,24 @@ comes_to : (w : ℕ) {gap : Gap} {s : Seconds} (value : ℕ) → gap ≡ Lasting
 comes_to w value e n = rw (e, loaded_some value n)
 
 pub less-requires : goal.less-requires
-less-requires c = one_unit _ _ c.step_cost-cost.ensures _ c.requires.cost_value.0
+less-requires g c = one_unit _ _ c.step_cost-cost.ensures _ c.requires.cost_value.0
 
 pub returns-then-less-clause-cost_value_2 : goal.returns-then-less-clause-cost_value_2
-returns-then-less-clause-cost_value_2 c =
-    (taken c.args.goal (comes_to c.args.weight c.args.value c.seconds_after-gap.ensures c.if-value-eq-NONE.false) c.step_cost-cost.ensures c.args.best c.args.kind
+returns-then-less-clause-cost_value_2 g c =
+    (taken c.args.weight.goal (comes_to c.args.weight.weight c.args.value c.seconds_after-gap.ensures c.if-value-eq-NONE.false) c.step_cost-cost.ensures c.args.best c.args.kind
     (sym c.less.ensures ∙ c.if-less.true)).0
 
 pub returns-then-less-clause-kind_value : goal.returns-then-less-clause-kind_value
-returns-then-less-clause-kind_value c =
-    (taken c.args.goal (comes_to c.args.weight c.args.value c.seconds_after-gap.ensures c.if-value-eq-NONE.false) c.step_cost-cost.ensures c.args.best c.args.kind
+returns-then-less-clause-kind_value g c =
+    (taken c.args.weight.goal (comes_to c.args.weight.weight c.args.value c.seconds_after-gap.ensures c.if-value-eq-NONE.false) c.step_cost-cost.ensures c.args.best c.args.kind
     (sym c.less.ensures ∙ c.if-less.true)).1
 
 pub returns-else-less-clause-cost_value_2 : goal.returns-else-less-clause-cost_value_2
-returns-else-less-clause-cost_value_2 c =
-    (kept c.args.goal (comes_to c.args.weight c.args.value c.seconds_after-gap.ensures c.if-value-eq-NONE.false) c.step_cost-cost.ensures c.args.best c.args.kind
+returns-else-less-clause-cost_value_2 g c =
+    (kept c.args.weight.goal (comes_to c.args.weight.weight c.args.value c.seconds_after-gap.ensures c.if-value-eq-NONE.false) c.step_cost-cost.ensures c.args.best c.args.kind
     (sym c.less.ensures ∙ c.if-less.false) c.requires.cost_value.0).0
 
 pub returns-else-less-clause-kind_value : goal.returns-else-less-clause-kind_value
-returns-else-less-clause-kind_value c =
-    (kept c.args.goal (comes_to c.args.weight c.args.value c.seconds_after-gap.ensures c.if-value-eq-NONE.false) c.step_cost-cost.ensures c.args.best c.args.kind
+returns-else-less-clause-kind_value g c =
+    (kept c.args.weight.goal (comes_to c.args.weight.weight c.args.value c.seconds_after-gap.ensures c.if-value-eq-NONE.false) c.step_cost-cost.ensures c.args.best c.args.kind
     (sym c.less.ensures ∙ c.if-less.false) c.requires.cost_value.0).1

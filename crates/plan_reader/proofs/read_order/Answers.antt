@@ -1,24 +1,32 @@
 -- A turn reads one job, or the first that is refused: the lemmas on `Ordering` and `Looping`.
-use Rattle.std.proofs.Common.{sym}
-use Rattle.fields.proofs.Judged.{as_value, as_refused}
+use Rattle.std.proofs.Common.{◌≡◌, Err, rules, sym, ◌∙◌}
 use Rattle.fields.proofs.Loops.{loop_stop, loop_done}
-use Rattle.plan_reader.proofs.Orders.{order_again}
+use Rattle.plan_reader.proofs.Orders.{order_none, order_again}
 use Rattle.plan_reader.proofs.read_order.Goals as goal
 
-pub returns-in-Refused-clause-value : goal.returns-in-Refused-clause-value
-returns-in-Refused-clause-value c =
-    (loop_stop c.loop-k.invariant.loop c.loop-k-test.true _ (as_refused _ _ (sym c.in-Refused.ensures))).0
+pub loop-place-init : goal.loop-place-init
+loop-place-init c = (search rules, order_none)
 
-pub returns-in-Refused-clause-out_after : goal.returns-in-Refused-clause-out_after
-returns-in-Refused-clause-out_after c =
-    (loop_stop c.loop-k.invariant.loop c.loop-k-test.true _ (as_refused _ _ (sym c.in-Refused.ensures))).1
+pub loop-place-preserved : goal.loop-place-preserved
+loop-place-preserved c =
+    let (same, w) = c.loop-place.invariant in
+    let read = c.in_ok-job.ensures in
+    (read.0 ∙ same, order_again w _ _ c.loop-place-test.true c.requires.1 (rw same at read.1))
 
-pub loop-k-preserved : goal.loop-k-preserved
-loop-k-preserved c =
-    order_again c.loop-k.invariant _ _ c.loop-k-test.true c.requires.1 (as_value _ _ _ (sym c.in-Value.ensures))
+pub returns-in_err-job-clause-value : goal.returns-in_err-job-clause-value
+returns-in_err-job-clause-value c =
+    let (same, w) = c.loop-place.invariant in
+    let read = c.in_err-job.ensures in
+    let err : c.from_residual.result ≡ Err c.in_err-job.field-0.0 = search rules in
+    (read.0 ∙ same, rw err (sym (loop_stop w.loop c.loop-place-test.true _ (rw same at read.1)).0))
+
+pub returns-in_err-job-clause-out_after : goal.returns-in_err-job-clause-out_after
+returns-in_err-job-clause-out_after c =
+    let (same, w) = c.loop-place.invariant in
+    (loop_stop w.loop c.loop-place-test.true _ (rw same at c.in_err-job.ensures.1)).1
 
 pub returns-clause-value : goal.returns-clause-value
-returns-clause-value c = (loop_done c.loop-k.invariant.loop c.loop-k-test.false).0
+returns-clause-value c = (c.loop-place.invariant.0, sym (loop_done c.loop-place.invariant.1.loop c.loop-place-test.false).0)
 
 pub returns-clause-out_after : goal.returns-clause-out_after
-returns-clause-out_after c = (loop_done c.loop-k.invariant.loop c.loop-k-test.false).1
+returns-clause-out_after c = (loop_done c.loop-place.invariant.1.loop c.loop-place-test.false).1

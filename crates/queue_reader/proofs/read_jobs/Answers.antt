@@ -1,19 +1,21 @@
--- The number of jobs, then their kinds, with which the message ends.
-use Rattle.std.proofs.Common.{rules, sym, ◌∙◌}
+-- The number of jobs, then their kinds.
+use Rattle.std.proofs.Common.{◌≡◌, ◌≤◌, ℕ, List, replicate, rules, ◌∙◌}
 use Rattle.refusal.specs.declared.Reason.TheVariants.{Jobs}
+use Rattle.number.specs.Readers.{found}
 use Rattle.fields.specs.Fields.{field, within}
-use Rattle.fields.proofs.Judged.{as_value}
-use Rattle.queue.specs.Reading.{jobs}
-use Rattle.queue_reader.proofs.Rests.{jobs_end}
+use Rattle.fields.proofs.Loops.{front_found, front_stored}
+use Rattle.queue_reader.proofs.Records.{kind_field, jobs_read}
 use Rattle.queue_reader.proofs.read_jobs.Goals as goal
 
-pub returns-in-Refused : goal.returns-in-Refused
-unfolding jobs
-returns-in-Refused c = search rules
-
-pub returns-in-Value : goal.returns-in-Value
-returns-in-Value c =
-    let s = c.args.bytes.now in
-    let number = as_value (field 3 (within 0 60) Jobs s c.args.at) _ _ (sym c.read_field.ensures ∙ c.in-Value.is) in
-    let run = c.read_byte_run-outcome.ensures in
-    c.end_reading.ensures ∙ jobs_end c.args.queue s c.args.at _ _ number _ _ run.value run.out_after
+pub returns : goal.returns
+returns c =
+    let s = c.args.input.now.bytes.now in
+    let zeros : List ℕ = replicate 60 0 in
+    let one = kind_field c.args.queue.kinds in
+    let count : field 3 (within 0 60) Jobs s c.args.input.now.at ≡ found c.in_ok-jobs.jobs c.read_field.new.input.at = search rules in
+    let few : c.in_ok-jobs.jobs ≤ 60 = search rules in
+    let same : c.read_field.new.input.bytes ≡ c.args.input.now.bytes = search rules in
+    let run = c.in_ok-read_run.ensures.value in
+    let (kinds, g) = front_found _ zeros few one s _ _ (rw same at run.1) in
+    let array = front_stored _ zeros _ few one s _ (rw same at c.read_run.ensures.out_after) kinds _ g in
+    (run.0 ∙ same, jobs_read c.args.queue _ _ s _ _ count kinds _ g array)

@@ -1,23 +1,20 @@
--- Each turn's test is the next one of `Testing`.
-use Rattle.std.proofs.Common.{[], sym, ◌∙◌, arith}
-use Rattle.fields.proofs.Orders.{all_in_order_lem}
-use Rattle.fields.proofs.Tables.{length_tabulate}
-use Rattle.fields.proofs.Testing.{test_none, test_more, test_out, test_done}
-use Rattle.queue_writer.proofs.Arrays.{row_at}
+-- The row that is tested is the next one.
+use Rattle.std.proofs.Common.{sym, arith}
+use Rattle.queue_writer.proofs.Arrays.{next_row, no_rows}
+use Rattle.queue_writer.proofs.Judging.{all_more, all_out, all_done}
 use Rattle.queue_writer.proofs.judge_gaps.Goals as goal
 
-pub loop-row-init : goal.loop-row-init
-loop-row-init c = test_none (length_tabulate _ 0 _) (all_in_order_lem _ _)
-
-pub returns-then-not-all_at_most : goal.returns-then-not-all_at_most
-returns-then-not-all_at_most c =
-    let here = row_at c.args.gaps.now c.args.kinds c.loop-row.row _ c.row_start.ensures (omega arith) (omega arith) in
-    test_out c.loop-row.invariant [] _ (omega arith) here (sym c.all_at_most.ensures ∙ c.if-not-all_at_most.true)
+pub returns-then-not-all_within : goal.returns-then-not-all_within
+returns-then-not-all_within c =
+    let next = next_row c.args.gaps.now c.args.kinds c.loop-row.row _ c.row_start-start.ensures (omega arith) (omega arith) (omega arith) in
+    all_out _ c.loop-row.invariant next (sym c.if-not-all_within.ensures)
 
 pub loop-row-preserved : goal.loop-row-preserved
 loop-row-preserved c =
-    let here = row_at c.args.gaps.now c.args.kinds c.loop-row.row _ c.row_start.ensures (omega arith) (omega arith) in
-    test_more c.loop-row.invariant [] _ (omega arith) here (sym c.all_at_most.ensures ∙ c.if-not-all_at_most.false)
+    let next = next_row c.args.gaps.now c.args.kinds c.loop-row.row _ c.row_start-start.ensures (omega arith) (omega arith) (omega arith) in
+    all_more _ c.loop-row.invariant next (sym c.if-not-all_within.ensures)
 
-pub returns : goal.returns
-returns c = test_done c.loop-row.invariant (omega arith)
+pub returns-else-not-all_within : goal.returns-else-not-all_within
+returns-else-not-all_within c =
+    let next = next_row c.args.gaps.now c.args.kinds c.loop-row.row _ c.row_start-start.ensures (omega arith) (omega arith) (omega arith) in
+    all_done _ (all_more _ c.loop-row.invariant next (sym c.if-not-all_within.ensures)) (no_rows c.args.gaps.now c.args.kinds _ (omega arith))

@@ -1,12 +1,11 @@
--- `Writing` is the invariant; the kinds left to write fall.
-use Rattle.std.proofs.Common.{◌-◌}
-use Rattle.fields.proofs.Writing.{Writing}
+-- What is left to write is the windows from the next one on.
+use Rattle.std.proofs.Common.{drop}
+use mathlib.Core.List.{flat_map}
+use Rattle.fields_writer.proofs.Writing.{Writing}
 use Rattle.queue.specs.Writing.{encode_window}
-use Rattle.queue_writer.specs.Arrays.{window_pairs}
+use Rattle.queue.specs.Record.{window_pairs}
 use Rattle.queue_writer.proofs.write_windows.Given as goal
 
-abbrev pub invariant-loop-kind : goal.invariant-loop-kind
-invariant-loop-kind l = Writing encode_window (window_pairs l.first l.last l.kinds) l.kinds l.fn.buffer l.at l.buffer l.i l.kind
-
-abbrev pub decreases-loop-kind : goal.decreases-loop-kind
-decreases-loop-kind l = l.kinds - l.kind
+abbrev pub invariant-loop-window : goal.invariant-loop-window
+invariant-loop-window l =
+    Writing (flat_map encode_window (window_pairs l.windows)) l.initial.out (flat_map encode_window (window_pairs (drop l.window-index l.windows))) l.out

@@ -1,10 +1,7 @@
--- `Counting` is what the loop keeps; the kinds left fall.
-use Rattle.std.proofs.Common.{◌-◌}
+-- `Counting` is what the loop keeps.
+use Rattle.std.proofs.Common.{length}
 use Rattle.sizer.proofs.Counting.{Counting}
 use Rattle.sizer.proofs.most_feasible.Given as goal
 
-abbrev pub invariant-loop-j : goal.invariant-loop-j
-invariant-loop-j l = Counting l.counts l.kinds l.states l.product l.j
-
-abbrev pub decreases-loop-j : goal.decreases-loop-j
-decreases-loop-j l = l.kinds - l.j
+abbrev pub invariant-loop-kind_count : goal.invariant-loop-kind_count
+invariant-loop-kind_count l = Counting l.counts (length l.counts) l.states l.product l.kind_count-index

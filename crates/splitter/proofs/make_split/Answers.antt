@@ -1,65 +1,51 @@
--- The table filled and searched, then 17 where no cost was found, else both orders written.
-use Rattle.std.proofs.Common.{ℕ, ◌≡◌, ◌≤◌, T as Is, List, length, arith}
-use Rattle.units.specs.Costs.{number_of}
-use Rattle.queue.specs.declared.Queue.{Queue}
-use Rattle.queue.specs.Record.{Valid}
-use Rattle.sequencing.specs.Entries.{block, entries, FilledTable}
+-- The table filled and searched, then 17 where no split was found, else both orders written.
+use Rattle.std.proofs.Common.{◌≡◌, arith, ◌∙◌}
+use Rattle.fields.specs.Lists.{filled}
 use Rattle.problem.specs.OfQueue.{problem}
-use Rattle.splitting.specs.Covers.{covers}
-use Rattle.layout.specs.declared.Layout.{Layout}
-use Rattle.layout.specs.Prepared.{Prepared}
-use Rattle.filling.specs.Filling.{Earlier}
 use Rattle.filling.proofs.Tables.{all_filled}
-use Rattle.split_search.specs.declared.Split.{Split}
+use Rattle.splitting.specs.Taken.{first_order, second_order}
 use Rattle.split_search.specs.Searching.{Best}
-use Rattle.splitter.proofs.Making.{Searched, ends_unsplit, some_split, few_jobs, may_write, ends_split}
+use Rattle.splitter.proofs.Making.{best_of, few_jobs, may_write, ends_split}
 use Rattle.splitter.proofs.make_split.Goals as goal
+use Rattle.splitter.proofs.make_split.Goals.{After-split_orders-orders}
 
-module _ {q : Queue} {l : Layout} {second : ℕ} {table table' : List ℕ} {Rest : Type 0}
-    (pre : Valid q × (Prepared q l × (Is (covers q) × ((second ≤ q.kinds) × ((entries (problem q) ≤ length table) × Rest)))))
-    (fills : FilledTable (problem q) table table') where
-  -- what the search and the orders ask of the filled table
-  searchable : Valid q × (Prepared q l × (Earlier (problem q) table' (block (problem q)) × ((entries (problem q) ≤ length table') × (Is (covers q) × (second ≤ q.kinds)))))
-  searchable =
-      let (v, (p, (covering, (second_in, (room, _))))) = pre in
-      (v, (p, (all_filled fills, (omega (arith, room, fills.long), (covering, second_in)))))
+-- the split taken, for the caller's queue
+taken : (c : After-split_orders-orders) → Best c.args.setup.now.queue c.args.second c.in_ok-split.split
+taken c =
+    let b = c.new-bench.ensures in
+    best_of c.new-bench.result c.best_split.ensures (b.setup_value ∙ c.new.ensures.setup_value) b.second_value c.in_ok-split.split c.in_ok-split.ensures.ok_part
 
-  -- what the search found
-  searched : {r : Split} {cost : ℕ} → Best q second r → cost ≡ number_of r.cost → Searched q second table table' r cost
-  searched best e = record { valid = pre.0; second_in = pre.1.1.1.0; fills = fills; best = best; cost_is = e }
+-- and both orders
+orders : (c : After-split_orders-orders) → (c.split_orders-orders.result.first ≡ filled 60 (first_order (problem c.args.setup.now.queue) c.args.second))
+    × (c.split_orders-orders.result.second ≡ filled 60 (second_order (problem c.args.setup.now.queue) c.args.second))
+orders c =
+    let b = c.new-bench.ensures in
+    let o = c.split_orders-orders.ensures in
+    rw (← (b.setup_value ∙ c.new.ensures.setup_value), ← b.second_value) (o.first_value, o.second_value)
 
-pub best_split-split-requires : goal.best_split-split-requires
-best_split-split-requires c = searchable c.requires c.fill.ensures.filled_table
-
-pub returns-then-cost : goal.returns-then-cost
-returns-then-cost c =
-    let s = searched c.requires c.fill.ensures.filled_table c.best_split-split.ensures c.number-cost.ensures in
-    let ends = ends_unsplit s {buffer = c.args.buffer.now} c.if-cost.true in
-    record { value = ends.0; leaves_table = ends.1.0; buffer_after = ends.1.1 }
-
-pub split_orders-orders-requires-clause-valid : goal.split_orders-orders-requires-clause-valid
-split_orders-orders-requires-clause-valid c = searchable c.requires c.fill.ensures.filled_table
-
-pub split_orders-orders-requires-clause-best : goal.split_orders-orders-requires-clause-best
-split_orders-orders-requires-clause-best c =
-    let s = searched c.requires c.fill.ensures.filled_table c.best_split-split.ensures c.number-cost.ensures in
-    (c.best_split-split.ensures, some_split s c.if-cost.false)
+pub new-requires : goal.new-requires
+new-requires c = (all_filled c.fill.ensures.filled_table, omega (arith, c.fill.ensures.filled_table.long))
 
 pub overflow_sub-rest : goal.overflow_sub-rest
 overflow_sub-rest c =
-    let s = searched c.requires c.fill.ensures.filled_table c.best_split-split.ensures c.number-cost.ensures in
-    omega (arith, few_jobs s c.if-cost.false, c.requires.1.0.jobs_are)
+    few_jobs c.args.setup.now.valid c.requires.1.0 c.fill.ensures.filled_table (taken (goal.at.overflow_sub-rest c).After-split_orders-orders)
 
 pub write_split-requires : goal.write_split-requires
 write_split-requires c =
-    let s = searched c.requires c.fill.ensures.filled_table c.best_split-split.ensures c.number-cost.ensures in
-    let o = c.split_orders-orders.ensures in
-    may_write s c.if-cost.false c.requires.1.0.jobs_are o.first_value o.second_value _ c.requires.1.1.1.1.1
+    let at = (goal.at.write_split-requires c).After-split_orders-orders in
+    let o = orders at in
+    may_write c.args.setup.now.valid c.requires.1.0 c.fill.ensures.filled_table (taken at) c.number.ensures o.0 o.1 _ c.requires.1.1.1
 
-pub returns : goal.returns
-returns c =
-    let s = searched c.requires c.fill.ensures.filled_table c.best_split-split.ensures c.number-cost.ensures in
-    let o = c.split_orders-orders.ensures in
+pub returns-clause-value : goal.returns-clause-value
+returns-clause-value c =
+    let at = (goal.at.returns-clause-value c).After-split_orders-orders in
+    let o = orders at in
     let w = c.write_split.ensures in
-    let ends = ends_split s c.if-cost.false c.requires.1.0.jobs_are o.first_value o.second_value _ w.value w.buffer_after in
-    record { value = ends.0; leaves_table = ends.1.0; buffer_after = ends.1.1 }
+    (ends_split c.args.setup.now.valid c.requires.1.0 c.fill.ensures.filled_table (taken at) c.number.ensures o.0 o.1 _ w.value w.buffer_after).0
+
+pub returns-clause-buffer_after : goal.returns-clause-buffer_after
+returns-clause-buffer_after c =
+    let at = (goal.at.returns-clause-buffer_after c).After-split_orders-orders in
+    let o = orders at in
+    let w = c.write_split.ensures in
+    (ends_split c.args.setup.now.valid c.requires.1.0 c.fill.ensures.filled_table (taken at) c.number.ensures o.0 o.1 _ w.value w.buffer_after).1.1

@@ -1,29 +1,24 @@
 -- The message's own refusal, or the queue split.
-use Rattle.std.proofs.Common.{◌≡◌, sym, ap, ◌∙◌}
-use Rattle.queue.specs.declared.Reading.{Reading}
+use Rattle.std.proofs.Common.{rules, Err, ◌≡◌}
+use Rattle.queue.proofs.Answered.{answered_queue, answered_refusal}
 use Rattle.queue_laws.proofs.Theorems.{accepted_valid}
 use Rattle.best_order.proofs.Ends.{ends_as, ends_refused}
 use Rattle.best_split.proofs.Endings.{message_refused, message_accepted}
 use Rattle.best_split.proofs.Best.{splitting}
 use Rattle.splitter.proofs.split.Goals as goal
 
-verdict_is : {r r' : Reading} → r ≡ r' → r.verdict ≡ r'.verdict
-verdict_is e = ap (λ (r : Reading). r.verdict) e
+pub returns-in_err-queue : goal.returns-in_err-queue
+returns-in_err-queue c =
+    let refused : c.from_residual.result ≡ Err c.in_err-queue.field-0.0 = search rules in
+    let ends = ends_refused c.args.table.now c.args.buffer.now (message_refused _ _ _ _ _ (answered_refusal _ _ c.in_err-queue.ensures)) in
+    rw refused (splitting ends.0 ends.1.0 ends.1.1)
 
 pub split_record-requires : goal.split_record-requires
-split_record-requires c =
-    let e = c.read_queue-reading.ensures in
-    rw e (accepted_valid _ (sym (verdict_is e) ∙ c.in-Accepted.is))
+split_record-requires c = let (accepted, same) = answered_queue _ _ c.in_ok-queue.ensures in rw (← same) (accepted_valid _ accepted)
 
-pub returns-in-Refused : goal.returns-in-Refused
-returns-in-Refused c =
-    let ends = ends_refused c.args.table.now c.args.buffer.now (message_refused _ _ _ _ _ (sym (verdict_is c.read_queue-reading.ensures) ∙ c.in-Refused.is)) in
-    splitting ends.0 ends.1.0 ends.1.1
-
-pub returns-in-Accepted : goal.returns-in-Accepted
-returns-in-Accepted c =
-    let e = c.read_queue-reading.ensures in
-    let accepted = message_accepted _ _ _ _ (sym (verdict_is e) ∙ c.in-Accepted.is) in
-    let split = c.split_record.ensures in
-    let ends = ends_as _ _ _ accepted (rw e at split.value, (rw e at split.leaves_table, rw e at split.buffer_after)) in
+pub returns : goal.returns
+returns c =
+    let (accepted, same) = answered_queue _ _ c.in_ok-queue.ensures in
+    let split = rw (← same) at c.split_record.ensures in
+    let ends = ends_as _ _ _ (message_accepted _ _ _ _ accepted) (split.value, (split.leaves_table, split.buffer_after)) in
     splitting ends.0 ends.1.0 ends.1.1

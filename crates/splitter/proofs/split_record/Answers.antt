@@ -1,21 +1,27 @@
 -- 19 or 20, or what becomes of what is lent.
-use Rattle.std.proofs.Common.{sym, ◌∙◌}
-use Rattle.best_order.proofs.Ends.{ends_as, ends_refused}
+use Rattle.std.proofs.Common.{rules, Err, ◌≡◌, sym}
 use Rattle.best_split.proofs.Endings.{bench_enough, bench_refused, bench_passed}
 use Rattle.splitter.proofs.split_record.Goals as goal
 
+pub returns-in_err-judge_bench-clause-value : goal.returns-in_err-judge_bench-clause-value
+returns-in_err-judge_bench-clause-value c =
+    let refused : c.from_residual.result ≡ Err c.in_err-judge_bench.field-0.0 = search rules in
+    rw (refused, bench_refused _ _ _ _ _ (sym c.in_err-judge_bench.ensures))
+
+pub returns-in_err-judge_bench-clause-leaves_table : goal.returns-in_err-judge_bench-clause-leaves_table
+returns-in_err-judge_bench-clause-leaves_table c = rw (bench_refused _ _ _ _ _ (sym c.in_err-judge_bench.ensures))
+
+pub returns-in_err-judge_bench-clause-buffer_after : goal.returns-in_err-judge_bench-clause-buffer_after
+returns-in_err-judge_bench-clause-buffer_after c = rw (bench_refused _ _ _ _ _ (sym c.in_err-judge_bench.ensures))
+
 pub split_lent-requires : goal.split_lent-requires
-split_lent-requires c =
-    let enough = bench_enough _ _ (sym c.judge_bench-verdict.ensures ∙ c.in-Accepted.is) in
-    (c.requires, (enough.0, enough.1))
+split_lent-requires c = let enough = bench_enough _ _ (sym c.in_ok-judge_bench.ensures) in (c.requires, (enough.0, enough.1))
 
-pub returns-in-Refused : goal.returns-in-Refused
-returns-in-Refused c =
-    let ends = ends_refused c.args.table.now c.args.buffer.now (bench_refused _ _ _ _ _ (sym c.judge_bench-verdict.ensures ∙ c.in-Refused.is)) in
-    record { value = ends.0; leaves_table = ends.1.0; buffer_after = ends.1.1 }
+pub returns-clause-value : goal.returns-clause-value
+returns-clause-value c = rw (bench_passed _ _ _ _ (sym c.in_ok-judge_bench.ensures)) c.split_lent.ensures.value
 
-pub returns-in-Accepted : goal.returns-in-Accepted
-returns-in-Accepted c =
-    let split = c.split_lent.ensures in
-    let ends = ends_as _ _ _ (bench_passed _ _ _ _ (sym c.judge_bench-verdict.ensures ∙ c.in-Accepted.is)) (split.value, (split.leaves_table, split.buffer_after)) in
-    record { value = ends.0; leaves_table = ends.1.0; buffer_after = ends.1.1 }
+pub returns-clause-leaves_table : goal.returns-clause-leaves_table
+returns-clause-leaves_table c = rw (bench_passed _ _ _ _ (sym c.in_ok-judge_bench.ensures)) c.split_lent.ensures.leaves_table
+
+pub returns-clause-buffer_after : goal.returns-clause-buffer_after
+returns-clause-buffer_after c = rw (bench_passed _ _ _ _ (sym c.in_ok-judge_bench.ensures)) c.split_lent.ensures.buffer_after
