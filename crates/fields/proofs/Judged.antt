@@ -23,9 +23,6 @@ within_true low high v e = let q = and_true (leb low v) (leb v high) e in (leb-t
 pub true_within : (low high v : ℕ) → low ≤ v → v ≤ high → within low high v ≡ true
 true_within low high v l u = rw (le-leb low v l, le-leb v high u)
 
-pub low_out : (low high v : ℕ) → v < low → within low high v ≡ false
-low_out low high v l = rw (lt-leb low v l)
-
 pub high_out : (low high v : ℕ) → high < v → within low high v ≡ false
 high_out low high v l = elim (bool_cases (leb low v)) [ inl e ↦ rw (e, lt-leb v high l) | inr e ↦ rw e ]
 

@@ -7,13 +7,10 @@ pub mod Runs
 pub mod Parts
 pub mod Loops
 pub mod Seeking
-pub mod Pieces
 pub mod Answering
 pub mod Writers
 pub mod Openings
 pub mod Codecs
 pub mod Tables
-pub mod Testing
-pub mod Writing
 pub mod Arrays
 pub mod Refusing

@@ -92,9 +92,6 @@ module _ {T : Type 0} (n : ℕ) (l : List T) (room : n ≤ length l) (one : Read
   pub front_found : (j : ℕ) → behind (times (length (take n l)) one s i) ≡ found tt j → (ns : List ℕ) × (times n one s i ≡ found ns j)
   front_found j e = behind_found (times n one s i) j (rw (← length-take-le n l room) e)
 
-  pub front_refused : (r : Reason) → behind (times (length (take n l)) one s i) ≡ refused r → times n one s i ≡ refused r
-  front_refused r e = behind_refused (times n one s i) r (rw (← length-take-le n l room) e)
-
 -- .. of numbers that are held as they are
 pub front_stored : (n : ℕ) (l out : List ℕ) → n ≤ length l → (one : Reader ℕ) (s : List ℕ) (i : ℕ) → out ≡ sets (take n l) 0 (read_before (length (take n l)) one s i)
     → (ns : List ℕ) (j : ℕ) → times n one s i ≡ found ns j → out ++ drop n l ≡ sets l 0 ns

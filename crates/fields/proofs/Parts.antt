@@ -6,7 +6,7 @@ use mathlib.Core.List.{List, [], ◌∷◌, ◌++◌, append_assoc}
 use native.Mathlib.Omega.{arith}
 use native.Mathlib.Nat.{add-zero, zero-add}
 use lib.ListN.{length, get_or, take, drop, set, length-drop}
-use lib.Seq.{sets, sets-eq, drop-cons, drop-drop, drop-append-le, length-take-le, get_or-take, get_or-drop}
+use lib.Seq.{sets, sets-eq, drop-cons, drop-drop, drop-append-le, length-take-le}
 use Rattle.std.proofs.Common.{take-append-drop}
 use Rattle.fields.specs.Fields.{part}
 
@@ -20,9 +20,6 @@ part_more values from (suc n) h l =
 
 pub part_length : (values : List ℕ) (from n : ℕ) → from + n ≤ length values → length (part from n values) ≡ n
 part_length values from n h = length-take-le n (drop from values) (omega (arith, length-drop from values))
-
-pub part_at : (values : List ℕ) (from n k : ℕ) → k < n → get_or (part from n values) k 0 ≡ get_or values (from + k) 0
-part_at values from n k h = get_or-take n (drop from values) k 0 h ∙ get_or-drop from values k 0
 
 -- what is stored behind what was stored
 pub sets_append : (xs ys l : List ℕ) (i : ℕ) → sets l i (xs ++ ys) ≡ sets (sets l i xs) (i + length xs) ys

@@ -64,7 +64,7 @@ fn store_states<F: Fn(usize) -> Option<u64>>(
 {
     let mut feasible: u64 = 0;
     for kind in 0..setup.layout.size.kinds {
-        let entry = next_states::state_entry(setup, index, kind);
+        let entry = next_states::state_entry(&setup.layout, index, kind);
         match value(kind) {
             Some(found) => {
                 table[entry] = found;
@@ -82,7 +82,7 @@ fn fill_states(setup: &Setup, table: &mut [u64], k: &JobsLeft, places: &[u64; 65
     requires { Fillable setup.now.queue table.old k.now }
     ensures { StatesStored (problem setup.now.queue) (entry_from setup.now.queue table.old k.now (in_place k.now.left setup.now.layout.slots places.now here)) table.old k.now.index table.new result }
 {
-    let next = next_states::load_next(setup, table, k);
+    let next = next_states::load_next(&setup.layout, table, k);
     if next_states::none_next(&next) {
         if k.jobs == 0 {
             return store_states(setup, table, k.index, |kind| {

@@ -2,7 +2,6 @@
 -- Assumes nothing.
 use Prim.Native.Nat.{ℕ, zero, suc, ◌+◌, ◌-◌, ◌*◌, ◌^◌, ◌≤◌, ◌<◌}
 use mathlib.Core.Bool.{false, ◌&&◌}
-use mathlib.Core.List.{map}
 use mathlib.Core.Logic.{inl, inr}
 use mathlib.Core.Path.{◌≡◌, refl, sym, ap, ap₂, ◌∙◌}
 use native.Mathlib.Omega.{arith}
@@ -11,7 +10,7 @@ use lib.Dec.{leb, ltb}
 use lib.ListN.{length, get_or, take, replicate}
 use Rattle.queue.specs.declared.Queue.{Queue}
 use Rattle.queue.specs.Record.{Valid}
-use Rattle.sequencing.specs.Lists.{at, upto}
+use Rattle.sequencing.specs.Lists.{at}
 use Rattle.sequencing.specs.States.{jobs_of, K, all_left}
 use Rattle.sequencing.specs.Entries.{stride, block, entries}
 use Rattle.sequencing.proofs.AllJobs.{sum_all}
@@ -21,9 +20,9 @@ use Rattle.problem.specs.PlaceRule.{latest}
 use Rattle.problem.proofs.Rule.{allowed_between, jobs_is, proper}
 use Rattle.problem.proofs.Sizes.{entries_small}
 use Rattle.layout.specs.declared.Layout.{Layout}
-use Rattle.layout.specs.Prepared.{by_kind, begin_of, by_slot, slot_of, job_cut, earliest_at, latest_at, Prepared}
+use Rattle.layout.specs.Prepared.{begin_of, by_slot, slot_of, job_cut, earliest_at, latest_at, Prepared}
 use Rattle.layout.proofs.Blocks.{get_d_sets_in, get_d_filled}
-use Rattle.layout.proofs.Positions.{length_filled, of_kinds, counts_in, counts_all, begin_few, by_kind_at, by_slot_long, all_by_slot, slot_within, by_slot_at}
+use Rattle.layout.proofs.Positions.{length_filled, of_kinds, counts_all, begin_few, by_kind_at, by_slot_long, all_by_slot, slot_within, by_slot_at}
 use Rattle.layout.proofs.Places.{kind_cut}
 
 none_between : (p : ℕ) → leb 1 p && leb p 0 ≡ false
@@ -53,25 +52,7 @@ module _ {q : Queue} (v : Valid q) {l : Layout} (p : Prepared q l) where
   pub counts_long : length l.counts ≡ 5
   counts_long = ap length p.counts_are ∙ length_filled 5 (all_left (problem q))
 
-  pub begins_long : length l.begins ≡ 5
-  begins_long = ap length p.begins_are ∙ length_filled 5 (map (begin_of (problem q)) (upto q.kinds))
-
-  pub slots_long : length l.slots ≡ 5
-  slots_long = ap length p.slots_are ∙ length_filled 5 (map (slot_of (problem q)) (upto q.kinds))
-
-  pub strides_long : length l.strides ≡ 5
-  strides_long = ap length p.strides_are ∙ length_filled 5 (map (stride (all_left (problem q))) (upto q.kinds))
-
-  pub blocks_long : length l.blocks ≡ 5
-  blocks_long = ap length p.blocks_are ∙ length_filled 5 (map (λ x. (x - 1) * block (problem q)) (upto q.kinds))
-
-  pub jobs_long : length l.jobs ≡ 60
-  jobs_long = ap length p.jobs_by_kind ∙ length_filled 60 (by_kind (problem q))
-
   -- ---- the jobs of each kind
-
-  pub counts_at : (j : ℕ) → 1 ≤ j → at l.counts j ≡ K (problem q) j
-  counts_at j h = ap (λ cs. at cs j) p.counts_are ∙ counts_in q v j h
 
   pub counts_take : take q.kinds l.counts ≡ all_left (problem q)
   counts_take = ap (take q.kinds) p.counts_are ∙ counts_all q v

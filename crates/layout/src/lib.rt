@@ -72,8 +72,8 @@ fn list_kind(job_kinds: &[u8], total: usize, kind: u8, jobs: &mut [u8], from: us
 }
 
 // Lists and counts the jobs kind by kind.
-fn list_jobs(queue: &Queue, counts: &mut [u32], jobs: &mut [u8], begins: &mut [u32])
-    requires { Valid queue.now × (length counts.old ≡ 5) × (length jobs.old ≡ 60) × (length begins.old ≡ 5) }
+fn list_jobs(queue: &Queue, counts: &mut [u32; 5], jobs: &mut [u8; 60], begins: &mut [u32; 5])
+    requires { Valid queue.now }
     ensures counts_after { counts.new ≡ sets counts.old 0 (all_left (problem queue.now)) }
     ensures jobs_after { jobs.new ≡ sets jobs.old 0 (by_kind (problem queue.now)) }
     ensures begins_after { begins.new ≡ sets begins.old 0 (map (begin_of (problem queue.now)) (upto queue.now.kinds)) }
@@ -145,12 +145,11 @@ fn set_places(
     counts: &[u32; 5],
     begins: &[u32; 5],
     jobs: &[u8],
-    slots: &mut [usize],
-    earliest: &mut [u8],
-    latest: &mut [u8],
+    slots: &mut [usize; 5],
+    earliest: &mut [u8; 65],
+    latest: &mut [u8; 65],
 )
-    requires valid { Valid queue.now × Listed (problem queue.now) counts.now begins.now jobs.now }
-    requires slots_len { (length slots.old ≡ 5) × (length earliest.old ≡ 65) × (length latest.old ≡ 65) }
+    requires { Valid queue.now × Listed (problem queue.now) counts.now begins.now jobs.now }
     ensures slots_after { slots.new ≡ sets slots.old 0 (map (slot_of (problem queue.now)) (upto queue.now.kinds)) }
     ensures earliest_after { earliest.new ≡ sets earliest.old 0 (by_slot (problem queue.now) (earliest_at queue.now)) }
     ensures latest_after { latest.new ≡ sets latest.old 0 (by_slot (problem queue.now) (latest_at queue.now)) }
@@ -172,8 +171,8 @@ fn set_places(
 }
 
 // What one job of each kind counts for in an entry number; returns 01's P.
-fn set_strides(counts: &[u32; 5], kinds: usize, strides: &mut [usize]) -> usize
-    requires { (kinds ≤ 5) × (length strides.old ≡ 5) × ((j : ℕ) → j < kinds → get_or counts.now j 0 ≤ 60) }
+fn set_strides(counts: &[u32; 5], kinds: usize, strides: &mut [usize; 5]) -> usize
+    requires { (kinds ≤ 5) × ((j : ℕ) → j < kinds → get_or counts.now j 0 ≤ 60) }
     ensures value { result ≡ size (take kinds counts.now) }
     ensures strides_after { strides.new ≡ sets strides.old 0 (map (stride (take kinds counts.now)) (upto kinds)) }
 {
@@ -186,8 +185,8 @@ fn set_strides(counts: &[u32; 5], kinds: usize, strides: &mut [usize]) -> usize
 }
 
 // Where each kind's entries begin: P further for each kind.
-fn set_blocks(block: usize, kinds: usize, blocks: &mut [usize])
-    requires { (kinds ≤ 5) × ((length blocks.old ≡ 5) × (kinds * block < 2 ^ 64)) }
+fn set_blocks(block: usize, kinds: usize, blocks: &mut [usize; 5])
+    requires { (kinds ≤ 5) × (kinds * block < 2 ^ 64) }
     ensures { blocks.new ≡ sets blocks.old 0 (map (λ x. (x - 1) * block) (upto kinds)) }
 {
     let mut at: usize = 0;

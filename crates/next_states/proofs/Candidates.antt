@@ -3,7 +3,6 @@
 use Prim.Native.Nat.{ℕ, zero, suc, ◌+◌, ◌-◌, ◌*◌, ◌^◌, ◌≤◌, ◌<◌}
 use mathlib.Core.Bool.{Bool, true, false, false≢true}
 use mathlib.Core.List.{List}
-use mathlib.Core.Logic.{◌≢◌}
 use mathlib.Core.Option.{Option, none, some}
 use mathlib.Core.Path.{◌≡◌, refl, sym, ap, ◌∙◌}
 use native.Mathlib.Numerals.{add-one}
@@ -133,9 +132,6 @@ module _ (next gaps : List ℕ) (row w : ℕ) (open-all : Open next gaps row) wh
       let here : Upto d (loaded (at next x)) = rw e (omega arith) in
       let found = upto_plus_gap d w gap (loaded (at next x)) (open-all x l u (λ q. none_some d (sym q ∙ e))) here in
       absurd (rw z at (least_upto (candidate next gaps row w) 5 x (w * seconds_of gap + d) l u found))
-
-  pub some_least : length next ≡ 5 → none_of next ≡ false → least (candidate next gaps row w) 5 ≢ none
-  some_least long e z = none_of_lem next e (λ x l u. not_found z x l (omega arith) (loaded (at next x)) refl)
 
 -- where no kind past x has one, nothing is found for them from any row
 pub none_past : (next gaps : List ℕ) (row w x : ℕ) → ((y : ℕ) → x < y → y ≤ 5 → loaded (at next y) ≡ none) → (y : ℕ) → x < y → y ≤ 5 → candidate next gaps row w y ≡ none

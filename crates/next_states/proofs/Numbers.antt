@@ -1,6 +1,6 @@
 -- Entry numbers that run along with k: the arrays give 01's number of the state and of each next state.
 -- Assumes nothing.
-use Prim.Native.Nat.{ℕ, zero, suc, ◌+◌, ◌-◌, ◌*◌, ◌≤◌, ◌<◌}
+use Prim.Native.Nat.{ℕ, zero, suc, ◌+◌, ◌-◌, ◌*◌, ◌^◌, ◌≤◌, ◌<◌}
 use mathlib.Core.List.{List}
 use mathlib.Core.Logic.{inl, inr, ◌≢◌}
 use mathlib.Core.Path.{◌≡◌, sym, ap, ◌∙◌}
@@ -16,13 +16,14 @@ use Rattle.sequencing.specs.Entries.{index, stride, block, entries, k_at, number
 use Rattle.sequencing.proofs.Entries.{left_digits}
 use Rattle.sequencing.proofs.Radix.{index_digits, index_complete, digits_length}
 use Rattle.sequencing.proofs.Vectors.{at_in}
+use Rattle.jobs_left.specs.declared.JobsLeft.{JobsLeft}
 use Rattle.jobs_left.specs.Steps.{LeftAt}
 use Rattle.jobs_left.proofs.LeftAt.{left_at, stride_within}
+use Rattle.layout.specs.declared.Layout.{Layout}
 use Rattle.layout.specs.declared.Setup.{Setup}
 use Rattle.layout.proofs.Prepared.{stride_at, block_at}
 use Rattle.problem.specs.OfQueue.{problem}
-use Rattle.problem.proofs.Sizes.{entries_small}
-use Rattle.next_states.specs.Numbers.{Steppable}
+use Rattle.next_states.specs.Numbers.{Numbers, Steppable, Running}
 
 -- ---- 01's number
 
@@ -67,30 +68,38 @@ some_left w x n = omega (arith, left_is w (suc x) (omega arith))
 
 -- ---- by the arrays
 
-module _ (s : Setup) {i : ℕ} (in_block : i < block (problem s.queue)) where
-  stride_is : (x : ℕ) → 1 ≤ x → x ≤ s.queue.kinds → at s.layout.strides x ≡ stride (all_left (problem s.queue)) x
-  stride_is = stride_at s.valid s.prepared
-
-  block_is : (l : ℕ) → l < s.queue.kinds → get_or s.layout.blocks l 0 ≡ l * block (problem s.queue)
-  block_is l h = let e : suc l - 1 ≡ l = omega arith in rw e at (block_at s.valid s.prepared (suc l) (omega arith) h)
+module _ {P : Problem} {l : Layout} {i : ℕ} (n : Numbers P l) (in_block : i < block P) where
+  block_here : (x : ℕ) → x < P.N → get_or l.blocks x 0 ≡ x * block P
+  block_here x h = let e : suc x - 1 ≡ x = omega arith in rw e at (n.block_is (suc x) (omega arith) h)
 
   -- (L; k), L from 0
-  pub state_number : (l : ℕ) → l < s.queue.kinds → i + get_or s.layout.blocks l 0 ≡ number (problem s.queue) (suc l) (k_at (problem s.queue) i)
-  state_number l h = omega (arith, block_is l h, number_at (problem s.queue) l i in_block)
+  pub state_number : (x : ℕ) → x < P.N → i + get_or l.blocks x 0 ≡ number P (suc x) (k_at P i)
+  state_number x h = omega (arith, block_here x h, number_at P x i in_block)
 
   -- the next state by way of kind x, from 0
-  module _ (x : ℕ) (some : 0 < at (k_at (problem s.queue) i) (suc x)) where
-    pub next_number : i - get_or s.layout.strides x 0 + get_or s.layout.blocks x 0 ≡ number (problem s.queue) (suc x) (complete (k_at (problem s.queue) i) (suc x))
+  module _ (x : ℕ) (some : 0 < at (k_at P i) (suc x)) where
+    pub next_number : i - get_or l.strides x 0 + get_or l.blocks x 0 ≡ number P (suc x) (complete (k_at P i) (suc x))
     next_number =
-        let (low, high) = kind_in (problem s.queue) i (suc x) some in
-        omega (arith, stride_is (suc x) low high, block_at s.valid s.prepared (suc x) low high, number_next (problem s.queue) i (suc x) in_block some)
+        let (low, high) = kind_in P i (suc x) some in
+        omega (arith, n.stride_is (suc x) low high, n.block_is (suc x) low high, number_next P i (suc x) in_block some)
 
-    pub steppable : Steppable s.layout.strides s.layout.blocks i x
-    steppable =
-        let (low, high) = kind_in (problem s.queue) i (suc x) some in
+    pub steppable : entries P < 2 ^ 64 → Steppable l.strides l.blocks i x
+    steppable fits =
+        let (low, high) = kind_in P i (suc x) some in
         record {
-          x_in = omega (arith, s.valid.kinds.1);
-          lower = λ y l. omega (arith, stride_is (suc y) (omega arith) (omega arith), stride_below (problem s.queue) i (suc x) (suc y) in_block some (omega arith));
-          fits = λ y l.
-              omega (arith, block_is y (omega arith), digits_lt {q = y} {m = s.queue.kinds} (omega arith) in_block, entries_small s.queue s.valid);
+          x_in = omega (arith, n.few);
+          lower = λ y h. omega (arith, n.stride_is (suc y) (omega arith) (omega arith), stride_below P i (suc x) (suc y) in_block some (omega arith));
+          fits = λ y h. omega (arith, block_here y (omega arith), digits_lt {q = y} {m = P.N} (omega arith) in_block);
         }
+
+-- ---- a queue's
+
+pub numbers : (s : Setup) → Numbers (problem s.queue) s.layout
+numbers s = record {
+  few = s.valid.kinds.1;
+  stride_is = stride_at s.valid s.prepared;
+  block_is = block_at s.valid s.prepared;
+}
+
+pub running : (s : Setup) {k : JobsLeft} → LeftAt (problem s.queue) k.left k.index → Running (problem s.queue) s.layout k
+running s w = record { left_at = w; numbers = numbers s }

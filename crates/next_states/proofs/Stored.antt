@@ -1,7 +1,7 @@
 -- Values as the table holds them: 2^64 − 1 is none only where no cost is as large.
 -- Assumes nothing.
 use Prim.Native.Nat.{ℕ, zero, suc, ◌+◌, ◌-◌, ◌^◌, ◌<◌, ◌≤◌, min}
-use mathlib.Core.Bool.{Bool, true, false, cond}
+use mathlib.Core.Bool.{true, cond}
 use mathlib.Core.Logic.{inl, inr, ◌≢◌}
 use mathlib.Core.Option.{Option, none, some}
 use mathlib.Core.Path.{◌≡◌, refl, sym, ◌∙◌}
@@ -9,7 +9,7 @@ use native.Mathlib.Nat.{add-zero}
 use native.Mathlib.Omega.{arith}
 use lib.Dec.{leb, ltb, eqb}
 use borrow.Author.Tests.{lt-ltb, le-ltb, ne_eqb, eqb-true, leb-true, leb-false}
-use Rattle.sequencing.specs.Least.{only, lower, reaches, least, arg_least}
+use Rattle.sequencing.specs.Least.{lower, reaches, least, arg_least}
 use Rattle.std.proofs.lemmas.Bool.{cases_Bool}
 use Rattle.sequencing.proofs.Options.{none_some}
 use Rattle.sequencing.proofs.Least.{smallest}
@@ -24,10 +24,6 @@ Fits (some c) = c < 2 ^ 64 - 1
 pub fits : (r : Option ℕ) → ((c : ℕ) → r ≡ some c → c < 2 ^ 64 - 1) → Fits r
 fits none h = tt
 fits (some c) h = h c refl
-
-pub fits_only : (b : Bool) (r : Option ℕ) → Fits r → Fits (only b r)
-fits_only true r h = h
-fits_only false r h = tt
 
 fits_some : (r : Option ℕ) (c : ℕ) → Fits r → r ≡ some c → c < 2 ^ 64 - 1
 fits_some r c h e = rw e at h

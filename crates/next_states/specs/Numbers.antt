@@ -1,8 +1,26 @@
--- Entry numbers that run along with k: what is taken off and added for a next state.
-use Rattle.std.specs.Prelude.{ℕ, ◌+◌, ◌^◌, ◌≤◌, ◌<◌, List, get_or}
+-- Entry numbers that run along with k: the part that k makes, and what is taken off and added for a next state.
+use Rattle.std.specs.Prelude.{ℕ, ◌+◌, ◌-◌, ◌*◌, ◌^◌, ◌≤◌, ◌<◌, List, ◌≡◌, get_or}
+use Rattle.sequencing.specs.Lists.{at}
+use Rattle.sequencing.specs.Problem.{Problem}
+use Rattle.sequencing.specs.States.{all_left}
+use Rattle.sequencing.specs.Entries.{stride, block}
+use Rattle.jobs_left.specs.declared.JobsLeft.{JobsLeft}
+use Rattle.jobs_left.specs.Steps.{LeftAt}
+use Rattle.layout.specs.declared.Layout.{Layout}
+
+-- the arrays that entry numbers are made of: 02's weights, what one job of each kind counts for, and 02's blocks, (x − 1) × P
+pub record Numbers (P : Problem) (l : Layout) : Type 0 where
+  pub few : P.N ≤ 5
+  pub stride_is : (x : ℕ) → 1 ≤ x → x ≤ P.N → at l.strides x ≡ stride (all_left P) x
+  pub block_is : (x : ℕ) → 1 ≤ x → x ≤ P.N → at l.blocks x ≡ (x - 1) * block P
 
 -- what a step to kind x (from 0) may rely on; it is asked of the kinds before x too, so that only the promise tells them apart
 pub record Steppable (strides blocks : List ℕ) (index x : ℕ) : Type 0 where
   pub x_in : x < 5
   pub lower : (y : ℕ) → y ≤ x → get_or strides y 0 ≤ index
   pub fits : (y : ℕ) → y ≤ x → index + get_or blocks y 0 < 2 ^ 64
+
+-- 02's running number: k's index is the part of the entry number that k makes
+pub record Running (P : Problem) (l : Layout) (k : JobsLeft) : Type 0 where
+  pub left_at : LeftAt P k.left k.index
+  pub numbers : Numbers P l

@@ -7,17 +7,16 @@ ghost use Rattle.units.specs.Costs.{cost_in, number_of};
 ghost use Rattle.gaps.specs.declared.Gap.TheVariants.{Never};
 ghost use Rattle.gaps.specs.Gaps.{gap_index, gap_between};
 ghost use Rattle.sequencing.specs.Lists.{at};
+ghost use Rattle.sequencing.specs.Problem.{Problem};
 ghost use Rattle.sequencing.specs.States.{complete};
 ghost use Rattle.sequencing.specs.Least.{plus_gap};
 ghost use Rattle.sequencing.specs.Entries.{stored, number, k_at, block, entries};
-ghost use Rattle.problem.specs.OfQueue.{problem};
-ghost use Rattle.jobs_left.specs.Steps.{LeftAt};
-ghost use Rattle.next_states.specs.Numbers.{Steppable};
+ghost use Rattle.next_states.specs.Numbers.{Numbers, Steppable, Running};
 ghost use Rattle.next_states.specs.NextStates.{loaded, answer, next_value, next_values, none_of, Counted, Ready, Open, least_next};
 
 use gaps::{Gap, GapTable};
 use jobs_left::{JobsLeft, StepWeight};
-use layout::Setup;
+use layout::Layout;
 use units::{Cost, PupilSeconds, Seconds};
 
 // An entry that holds no value.
@@ -141,56 +140,55 @@ pub fn none_next(next: &[u64; 5]) -> bool
 }
 
 // 01's entry of (L; k), L from 0: the running number, and L's block added.
-pub fn state_entry(setup: &Setup, index: usize, kind: usize) -> usize
-    requires { (kind < 5) × (index + get_or setup.now.layout.blocks kind 0 < 2 ^ 64) }
-    ensures { index < block (problem setup.now.queue) → kind < setup.now.queue.kinds → result ≡ number (problem setup.now.queue) (suc kind) (k_at (problem setup.now.queue) index) }
+pub fn state_entry(layout: &Layout, index: usize, kind: usize) -> usize
+    requires { (kind < 5) × (index + get_or layout.now.blocks kind 0 < 2 ^ 64) }
+    ensures { (P : Problem) → Numbers P layout.now → index < block P → kind < P.N → result ≡ number P (suc kind) (k_at P index) }
 {
-    index + setup.layout.blocks[kind]
+    index + layout.blocks[kind]
 }
 
 // 01's entry of the next state by way of kind x (from 0): x's weight taken off the running number, and x's block added.
-fn next_entry(setup: &Setup, index: usize, x: usize) -> usize
-    requires { Steppable setup.now.layout.strides setup.now.layout.blocks index x }
-    ensures { index < block (problem setup.now.queue) → 0 < at (k_at (problem setup.now.queue) index) (suc x) → result ≡ number (problem setup.now.queue) (suc x) (complete (k_at (problem setup.now.queue) index) (suc x)) }
+fn next_entry(layout: &Layout, index: usize, x: usize) -> usize
+    requires { Steppable layout.now.strides layout.now.blocks index x }
+    ensures { (P : Problem) → Numbers P layout.now → index < block P → 0 < at (k_at P index) (suc x) → result ≡ number P (suc x) (complete (k_at P index) (suc x)) }
 {
-    let layout = &setup.layout;
     index - layout.strides[x] + layout.blocks[x]
 }
 
 // What the table holds for that state, NONE where no job of x is left.
-fn next_value(setup: &Setup, table: &[u64], k: &JobsLeft, x: usize) -> u64
-    requires { (x < 5) × (LeftAt (problem setup.now.queue) k.now.left k.now.index × (entries (problem setup.now.queue) ≤ length table.now)) }
-    ensures { result ≡ stored (next_value (problem setup.now.queue) table.now (k_at (problem setup.now.queue) k.now.index) (suc x)) }
+fn next_value(layout: &Layout, table: &[u64], k: &JobsLeft, x: usize) -> u64
+    requires { (x < 5) × ((P : Problem) × (Running P layout.now k.now × (entries P ≤ length table.now))) }
+    ensures { (P : Problem) → Running P layout.now k.now → result ≡ stored (next_value P table.now (k_at P k.now.index) (suc x)) }
 {
     if k.left[x] == 0 {
         return NONE;
     }
-    table[next_entry(setup, k.index, x)]
+    table[next_entry(layout, k.index, x)]
 }
 
 // The next states' entries, kind by kind, read once for all states with one k.
-pub fn load_next(setup: &Setup, table: &[u64], k: &JobsLeft) -> [u64; 5]
-    requires { LeftAt (problem setup.now.queue) k.now.left k.now.index × (entries (problem setup.now.queue) ≤ length table.now) }
-    ensures { result ≡ next_values (problem setup.now.queue) table.now (k_at (problem setup.now.queue) k.now.index) }
+pub fn load_next(layout: &Layout, table: &[u64], k: &JobsLeft) -> [u64; 5]
+    requires { (P : Problem) × (Running P layout.now k.now × (entries P ≤ length table.now)) }
+    ensures { (P : Problem) → Running P layout.now k.now → result ≡ next_values P table.now (k_at P k.now.index) }
 {
     let mut next = [NONE; 5];
     for x in 0..5 {
-        next[x] = next_value(setup, table, k, x);
+        next[x] = next_value(layout, table, k, x);
     }
     next
 }
 
 // The least over the next states after row, by the table.
-pub fn best_next(setup: &Setup, table: &[u64], k: &JobsLeft, row: usize) -> Option<Least>
-    requires left_at { LeftAt (problem setup.now.queue) k.now.left k.now.index × (entries (problem setup.now.queue) ≤ length table.now) }
-    requires ready { Ready (next_values (problem setup.now.queue) table.now (k_at (problem setup.now.queue) k.now.index)) setup.now.queue.gaps row (cond (eqb setup.now.queue.goal 1) 1 k.now.weight) }
-    ensures { result ≡ least_next setup.now.queue.goal (next_values (problem setup.now.queue) table.now (k_at (problem setup.now.queue) k.now.index)) setup.now.queue.gaps row (cond (eqb setup.now.queue.goal 1) 1 k.now.weight) }
+pub fn best_next(
+    layout: &Layout,
+    table: &[u64],
+    k: &JobsLeft,
+    row: usize,
+    goal: u32,
+) -> Option<Least>
+    requires { (P : Problem) × (Running P layout.now k.now × ((entries P ≤ length table.now) × Ready (next_values P table.now (k_at P k.now.index)) layout.now.gaps.numbers row (cond (eqb goal 1) 1 k.now.weight))) }
+    ensures { (P : Problem) → Running P layout.now k.now → result ≡ least_next goal (next_values P table.now (k_at P k.now.index)) layout.now.gaps.numbers row (cond (eqb goal 1) 1 k.now.weight) }
 {
-    let next = load_next(setup, table, k);
-    least_next(
-        &next,
-        &setup.layout.gaps,
-        row,
-        k.step_weight(setup.queue.goal),
-    )
+    let next = load_next(layout, table, k);
+    least_next(&next, &layout.gaps, row, k.step_weight(goal))
 }

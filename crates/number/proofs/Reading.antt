@@ -1,7 +1,7 @@
 -- Reading a number group by group: what a turn of the loop adds, and the loop's invariant.
 -- Assumes nothing.
 use Prim.Native.Nat.{ℕ, zero, suc, ◌+◌, ◌-◌, ◌*◌, ◌^◌, ◌<◌, ◌≤◌}
-use mathlib.Core.Path.{◌≡◌, refl, sym, ap, ◌∙◌}
+use mathlib.Core.Path.{◌≡◌, refl, ap, ◌∙◌}
 use mathlib.Core.Bool.{Bool, true, false, false≢true}
 use mathlib.Core.Logic.{inl, inr}
 use mathlib.Core.List.{List}
@@ -65,10 +65,6 @@ pub record Reading (bytes : List ℕ) (at groups value shift i left : ℕ) : Typ
   pub groups_left : left + (i - at) ≡ groups
   pub fits : value < 2 ^ shift
   pub means : number groups bytes at ≡ placed (2 ^ shift) value (groups_at (eqb shift 0) left i (drop i bytes))
-
-pub reading_none : (bytes : List ℕ) (at groups : ℕ) → Reading bytes at groups 0 0 at groups
-reading_none bytes at groups =
-    record { from = omega arith; shifted = omega arith; groups_left = omega arith; fits = omega arith; means = sym (placed_none _) }
 
 module _ (bytes : List ℕ) (at groups value shift i left : ℕ) (w : Reading bytes at groups value shift i left) where
   pub reading_out : left ≡ 0 → number groups bytes at ≡ refused Groups

@@ -73,6 +73,3 @@ module _ (gap : ℕ → ℕ → Gap) (kind : ℕ → ℕ) (start : ℕ) (o : Lis
         let d : k < length o = omega arith in
         let here : get_or cut k 0 ≡ get_or o k 0 = rw (cut-is, sub-zero) (get_or-take place o k 0 few) in
         record { few = omega arith; small = omega (arith, w.small); rest = w.rest ∙ rw (e, drop-cons o k 0 d, ← here, ← xe, ← ge, ← te, add-one) }
-
-    pub cutting_done : place ≤ k → t ≡ at (finishes gap start 0 (map kind o)) place
-    cutting_done h = let e : place - k ≡ 0 = omega arith in sym (w.rest ∙ rw e)

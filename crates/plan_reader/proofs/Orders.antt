@@ -7,19 +7,12 @@ use native.Mathlib.Omega.{arith}
 use native.Mathlib.Numerals.{add-one}
 use lib.ListN.{length, take, set, length-set}
 use lib.Seq.{sets, take-suc-set}
-use Rattle.refusal.specs.declared.Reason.TheVariants.{Job}
 use Rattle.number.specs.Readers.{found, behind}
-use Rattle.fields.specs.Fields.{within}
 use Rattle.fields.specs.Orders.{followed_by}
-use Rattle.fields.proofs.Judged.{and_true, within_true, field_found}
 use Rattle.fields.proofs.Runs.{all_listed, in_order_lem}
 use Rattle.fields.proofs.Loops.{Looping, loop_none, loop_more, behind_found}
-use Rattle.plan.specs.Record.{fresh}
 use Rattle.plan.specs.Reading.{order}
 use Rattle.plan_reader.specs.Jobs.{job_after, order_before}
-
-pub job_small : (t : ℕ) (earlier s : List ℕ) (i v n : ℕ) → job_after t earlier s i ≡ found v n → v ≤ t
-job_small t earlier s i v n e = (within_true 1 t v (and_true (within 1 t v) _ (field_found 3 (fresh t earlier) Job s i v n e).1).0).1
 
 -- before place k + 1, at position i: the jobs stored so far are those by which the next is judged
 pub record Ordering (s : List ℕ) (at t : ℕ) (out₀ out : List ℕ) (i k : ℕ) : Type 0 where

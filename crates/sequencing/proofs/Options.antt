@@ -4,7 +4,7 @@ use mathlib.Core.Bool.{Bool, true, false}
 use mathlib.Core.Logic.{◌≢◌}
 use mathlib.Core.Option.{Option, none, some}
 use mathlib.Core.Path.{◌≡◌, refl, sym}
-use Prim.Native.Nat.{ℕ, ◌+◌, ◌-◌, ◌*◌, ◌^◌, ◌≤◌, ◌<◌}
+use Prim.Native.Nat.{ℕ, ◌+◌, ◌*◌, ◌≤◌}
 use native.Mathlib.Omega.{arith}
 use lib.Dec.{T as Is}
 use Rattle.gaps.specs.declared.Gap.{Gap}
@@ -12,7 +12,6 @@ use Rattle.gaps.specs.declared.Gap.TheVariants.{Lasting, Never}
 use Rattle.gaps.specs.Gaps.{seconds_of}
 use Rattle.gaps.proofs.Gaps.{not_never}
 use Rattle.sequencing.specs.Least.{only, plus, plus_gap, lower}
-use Rattle.sequencing.specs.Entries.{stored}
 use Rattle.sequencing.specs.Counts.{valued}
 
 pub some_eq : (a b : ℕ) → some a ≡ some b → a ≡ b
@@ -80,13 +79,3 @@ found_most none = omega arith
 found_most (some c) = omega arith
 
 -- ---- as a table holds it
-
--- 2^64 − 1 is held for none, where no cost is as large
-pub stored_none : (r : Option ℕ) → ((c : ℕ) → r ≡ some c → c < 2 ^ 64 - 1) → stored r ≡ 2 ^ 64 - 1 → r ≡ none
-stored_none none small e = refl
-stored_none (some c) small e = absurd (omega (arith, small c refl))
-
--- and any other number is the cost
-pub stored_some : (r : Option ℕ) → stored r ≢ 2 ^ 64 - 1 → r ≡ some (stored r)
-stored_some none other = absurd (other refl)
-stored_some (some c) other = refl

@@ -59,7 +59,8 @@ impl<'a> Filled<'a> {
                 kind: 0,
             });
         }
-        next_states::best_next(self.setup, self.table, k, row)
+        let setup = self.setup;
+        next_states::best_next(&setup.layout, self.table, k, row, setup.queue.goal)
     }
 
     // The order of a share of the queue: from the jobs left, each kind up to a job of its own. The first kind is the caller's, who has looked it up; then at
@@ -77,7 +78,13 @@ impl<'a> Filled<'a> {
             let x = kind - 1;
             order[place] = next_job(layout, &k, upto, x);
             k.complete(x, layout.strides[x], setup.queue.weights[x]);
-            if let Some(next) = next_states::best_next(setup, self.table, &k, kind) {
+            if let Some(next) = next_states::best_next(
+                layout,
+                self.table,
+                &k,
+                kind,
+                setup.queue.goal,
+            ) {
                 kind = next.kind;
             }
         }

@@ -51,7 +51,7 @@ fn cost_after(solved: &Filled, k: &JobsLeft, row: usize) -> Option<Cost>
 {
     let setup = solved.setup;
     if 0 < row {
-        let entry = next_states::state_entry(setup, k.index, row - 1);
+        let entry = next_states::state_entry(&setup.layout, k.index, row - 1);
         if let Some(value) = next_states::value_of(solved.table[entry]) {
             return Some(units::cost_in(setup.queue.goal, value));
         }

@@ -22,13 +22,13 @@ block_is q v e p = p ∙ ap size (all_counts q v e)
 
 pub set_strides-block-requires : goal.set_strides-block-requires
 set_strides-block-requires c =
-    (omega (arith, c.requires.kinds), refl, λ j h. rw c.list_jobs.ensures.counts_after (counts_small _ c.requires (suc j)))
+    (omega (arith, c.requires.kinds), λ j h. rw c.list_jobs.ensures.counts_after (counts_small _ c.requires (suc j)))
 
 pub set_blocks-requires : goal.set_blocks-requires
 set_blocks-requires c =
     let q = c.args.queue.now in
     let is_block = block_is q c.requires c.list_jobs.ensures.counts_after c.set_strides-block.ensures.value in
-    (omega (arith, c.requires.kinds), (refl, omega (arith, entries_small q c.requires, ap (λ n. q.kinds * n) is_block)))
+    (omega (arith, c.requires.kinds), omega (arith, entries_small q c.requires, ap (λ n. q.kinds * n) is_block))
 
 pub returns : goal.returns
 returns c =

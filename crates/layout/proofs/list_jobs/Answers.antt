@@ -8,15 +8,15 @@ loop-kind-init c = counting_none
 
 pub list_kind-end-requires : goal.list_kind-end-requires
 list_kind-end-requires c =
-    let v = c.requires.0 in
+    let v = c.requires in
     let fits = counting_fits c.args.queue.now c.loop-kind.invariant v c.loop-kind-test.true in
     (omega arith, v.jobs, omega arith)
 
 pub overflow_cast-begins : goal.overflow_cast-begins
-overflow_cast-begins c = omega (arith, counting_fits c.args.queue.now c.loop-kind.invariant c.requires.0 c.loop-kind-test.true)
+overflow_cast-begins c = omega (arith, counting_fits c.args.queue.now c.loop-kind.invariant c.requires c.loop-kind-test.true)
 
 pub overflow_cast-counts : goal.overflow_cast-counts
-overflow_cast-counts c = omega (arith, counting_fits c.args.queue.now c.loop-kind.invariant c.requires.0 c.loop-kind-test.true)
+overflow_cast-counts c = omega (arith, counting_fits c.args.queue.now c.loop-kind.invariant c.requires c.loop-kind-test.true)
 
 pub loop-kind-preserved : goal.loop-kind-preserved
 loop-kind-preserved c =

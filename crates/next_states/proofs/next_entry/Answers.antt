@@ -3,4 +3,4 @@ use Rattle.next_states.proofs.Numbers.{next_number}
 use Rattle.next_states.proofs.next_entry.Goals as goal
 
 pub returns : goal.returns
-returns c in_block some = next_number c.args.setup.now in_block c.args.x some
+returns c P n in_block some = next_number n in_block c.args.x some
