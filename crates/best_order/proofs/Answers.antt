@@ -1,6 +1,5 @@
 -- Planning ends as a call does, and its answer fits 64 bits.
 -- Assumes nothing.
-use Rattle.std.specs.Prelude.{Ok}
 use Prim.Native.Nat.{ℕ, ◌^◌, ◌<◌}
 use mathlib.Core.List.{List}
 use mathlib.Core.Option.{Option, none, some}

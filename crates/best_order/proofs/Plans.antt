@@ -1,7 +1,6 @@
 -- The plan of a queue that has a best cost: it is valid, its message is read as it, and it is the best plan.
 -- Assumes nothing.
 use Rattle.refusal.specs.Answers.{Accepted}
-use Rattle.std.specs.Prelude.{Ok}
 use Prim.Native.Nat.{ℕ, ◌-◌, ◌^◌, ◌≤◌, ◌<◌}
 use mathlib.Core.List.{List}
 use mathlib.Core.Option.{some}

@@ -1,7 +1,7 @@
 -- Each of planning's refusals is given exactly under its condition.
 -- Assumes nothing.
 use Rattle.refusal.specs.Answers.{Answer, Accepted}
-use Rattle.std.specs.Prelude.{Ok, Err}
+use Rattle.std.specs.Prelude.{Err}
 use Prim.Native.Nat.{ℕ, ◌≤◌, ◌<◌}
 use mathlib.Core.List.{List}
 use mathlib.Core.Logic.{◌↔◌, ◌≢◌}

@@ -1,7 +1,7 @@
 -- The best order: what planning promises of every accepted message, with a table of at least N × P entries and a buffer of at least 77 bytes,
 -- whatever they hold.
 use Rattle.refusal.specs.Answers.{Accepted}
-use Rattle.std.specs.Prelude.{ℕ, ◌*◌, ◌≤◌, List, map, ◌↔◌, ◌≢◌, ◌≡◌, length, get_or, take, drop, Ok}
+use Rattle.std.specs.Prelude.{ℕ, ◌*◌, ◌≤◌, List, map, ◌↔◌, ◌≢◌, ◌≡◌, length, get_or, take, drop}
 use Rattle.queue.specs.Reading.{read_queue}
 use Rattle.plan.specs.Record.{job_list}
 use Rattle.plan.specs.Reading.{Reading, read_plan}

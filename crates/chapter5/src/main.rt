@@ -1,9 +1,7 @@
 // Plans the example of the source's chapter 5 at shifts 0, 5 and 14 under both goals; prints each plan's cost, kept count and order.
 #![tactic(auto)]
 
-use plan::Plan;
-use queue::Queue;
-use refusal::Reason;
+use plan_lines::Planned;
 use std::io;
 
 // The queue message of a goal and a shift: 01's numbers of chapter 5, goal and shift at bytes 4 and 5.
@@ -15,35 +13,26 @@ fn message_of(goal: u8, shift: u8) -> [u8; 48] {
     message
 }
 
-// The queue of a message and its plan, or the refusal, in a table of the 630 entries that the example needs.
-fn plan_message(message: &[u8]) -> Result<(Queue, Plan), Reason> {
-    let mut table = [0u64; 630];
-    let mut buffer = [0u8; 77];
-    let bytes = planner::plan(message, &mut table, &mut buffer)?;
-    let plan = plan_reader::read_plan(planner::written_plan(&buffer, bytes))?;
-    let queue = queue_reader::read_queue(message)?;
-    Ok((queue, plan))
-}
-
-// A plan's cost and kept count, then the job at each place.
-fn print_plan(rt: &impl Print, queue: Queue, plan: Plan) -> io::Result<()> {
-    let cost = plan.cost;
-    let kept = plan.feasible_states;
+// A plan's cost and kept count, then the job at each place, on one line: `plan_queue` prints a line for each.
+fn print_plan(rt: &impl Print, planned: Planned) -> io::Result<()> {
+    let cost = planned.plan.cost;
+    let kept = planned.plan.feasible_states;
     println!(rt; "cost {cost} kept {kept}")?;
     print!(rt; "order")?;
-    for place in 0..plan.jobs {
-        let line = plan_lines::line_at(queue, plan, place + 1);
+    for place in 1..=planned.plan.jobs {
+        let line = planned.line_at(place);
         let job = line.job;
         print!(rt; " {job}")?;
     }
     println!(rt)
 }
 
-// Plans at one goal and shift; no refusal is expected.
+// Plans at one goal and shift, in a table of the 630 entries that the example needs; no refusal is expected.
 fn run(rt: &impl Print, goal: u8, shift: u8) -> io::Result<()> {
     println!(rt; "shift {shift} goal {goal}")?;
-    match plan_message(&message_of(goal, shift)) {
-        Ok((queue, plan)) => print_plan(rt, queue, plan),
+    let mut table = [0u64; 630];
+    match plan_lines::plan_message(&message_of(goal, shift), &mut table) {
+        Ok(planned) => print_plan(rt, planned),
         Err(why) => {
             let number = why.number();
             println!(rt; "refused {number}")

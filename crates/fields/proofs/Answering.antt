@@ -1,15 +1,11 @@
--- The three ways of writing a message: a refused record, a short buffer, a written message.
+-- What a writer answers, and leaves in the buffer.
 -- Assumes nothing.
 use Rattle.refusal.specs.Answers.{Verdict, Written, Accepted}
 use Rattle.std.specs.Prelude.{Ok, Err}
-use Prim.Native.Nat.{ℕ, ◌<◌, ◌≤◌}
+use Prim.Native.Nat.{ℕ}
 use mathlib.Core.Path.{◌≡◌, refl, ap}
 use mathlib.Core.List.{List}
 use lib.ListN.{length}
-use lib.Seq.{sets}
-use borrow.Author.Tests.{le-leb, lt-leb}
-use Rattle.refusal.specs.declared.Reason.{Reason}
-use Rattle.refusal.specs.declared.Reason.TheVariants.{Buffer}
 use Rattle.fields.specs.Messages.{write_answer, buffer_after}
 
 -- records that get one verdict, and one message where it accepts, are written alike
@@ -25,15 +21,3 @@ written_alike least v (Err r) message message' e alike room buffer = (rw e, rw e
 abbrev pub Answered : ℕ → Verdict → List ℕ → List ℕ → Written → List ℕ → Type 0
 Answered least verdict message buffer answer after =
     let due = write_answer least verdict (length buffer) message in (answer ≡ due) × (after ≡ buffer_after due message buffer)
-
-module _ (least : ℕ) (verdict : Verdict) (message buffer : List ℕ) where
-  pub record_refused : (r : Reason) → verdict ≡ Err r → Answered least verdict message buffer (Err r) buffer
-  record_refused r e = (rw e, rw e)
-
-  module _ (e : verdict ≡ Accepted) where
-    pub buffer_short : length buffer < least → Answered least verdict message buffer (Err Buffer) buffer
-    buffer_short h = (rw (e, lt-leb least (length buffer) h), rw (e, lt-leb least (length buffer) h))
-
-    pub message_written : least ≤ length buffer → (n : ℕ) (after : List ℕ) → (n ≡ length message) × (after ≡ sets buffer 0 message)
-        → Answered least verdict message buffer (Ok n) after
-    message_written h n after w = (rw (w.0, e, le-leb least (length buffer) h), rw (w.1, e, le-leb least (length buffer) h))

@@ -1,8 +1,8 @@
 -- Arrays that hold a list, read element by element.
 -- Assumes nothing.
 use Prim.Native.Nat.{ℕ, zero, suc, ◌+◌, ◌-◌, ◌<◌, ◌≤◌}
-use mathlib.Core.Path.{◌≡◌, refl, sym, ap, ap₂, ◌∙◌}
-use mathlib.Core.List.{List, [], ◌∷◌, map}
+use mathlib.Core.Path.{◌≡◌, refl, sym, ap, ◌∙◌}
+use mathlib.Core.List.{List, [], ◌∷◌}
 use native.Mathlib.Omega.{arith}
 use lib.ListN.{length, get_or, take, set, replicate, length-replicate}
 use lib.Seq.{sets, length-sets, take-set-le, get_or-set_other}
@@ -17,20 +17,6 @@ array_back m n vs long few =
     list_part (filled m vs) n (omega (arith, length-sets zeros 0 vs, length-replicate {A = ℕ} m 0))
     ∙ ap (λ (k : ℕ). part 0 k (filled m vs)) (sym long)
     ∙ part_sets zeros 0 vs (omega (arith, length-replicate {A = ℕ} m 0))
-
--- two lists side by side
-pub tabulate_pairs : (f g : ℕ → ℕ) (i n : ℕ) (ws : List (ℕ × ℕ)) → tabulate f i n ≡ map (λ w. w.0) ws → tabulate g i n ≡ map (λ w. w.1) ws
-    → tabulate (λ j. (f j, g j)) i n ≡ ws
-unfolding tabulate
-tabulate_pairs f g i zero [] a b = refl
-tabulate_pairs f g i zero (w ∷ ws) a b = let z : ◌≡◌ {A = ℕ} 0 1 = cc in absurd (omega arith)
-tabulate_pairs f g i (suc n) [] a b = let z : ◌≡◌ {A = ℕ} 0 1 = cc in absurd (omega arith)
-tabulate_pairs f g i (suc n) (w ∷ ws) a b =
-    let p : f i ≡ w.0 = cc in
-    let q : g i ≡ w.1 = cc in
-    let a' : tabulate f (suc i) n ≡ map (λ w. w.0) ws = cc in
-    let b' : tabulate g (suc i) n ≡ map (λ w. w.1) ws = cc in
-    ap₂ (λ (x : ℕ × ℕ) (l : List (ℕ × ℕ)). x ∷ l) (λ j. (p j, q j)) (tabulate_pairs f g (suc i) n ws a' b')
 
 -- a list by its elements
 pub tabulate_list : {A : Type 0} (xs : List A) (d : A) (i : ℕ) → tabulate (λ k. get_or xs (k - i) d) i (length xs) ≡ xs

@@ -87,13 +87,17 @@ module _ {T : Type 0} {held : List ℕ → List T} {one : Reader ℕ} {s : List 
           → (behind (times (length out₀) one s at) ≡ found tt i) × (out ≡ sets out₀ 0 (held (read_before (length out₀) one s at)))
       run_done h = let (ends, left) = loop_done w.loop h in (sym ends, rw none at left)
 
--- a run that was stored in the first n places of an array
-module _ {T : Type 0} (n : ℕ) (l : List T) (room : n ≤ length l) (one : Reader ℕ) (s : List ℕ) (i : ℕ) where
-  pub front_found : (j : ℕ) → behind (times (length (take n l)) one s i) ≡ found tt j → (ns : List ℕ) × (times n one s i ≡ found ns j)
-  front_found j e = behind_found (times n one s i) j (rw (← length-take-le n l room) e)
+-- a run for the first n places of an array: what it found, and the array with it
+module _ {T : Type 0} (n : ℕ) (l : List T) (room : n ≤ length l) where
+  pub front_found : {A : Type 0} (run : ℕ → Found A) (j : ℕ) → behind (run (length (take n l))) ≡ found tt j → (a : A) × (run n ≡ found a j)
+  front_found run j e = behind_found (run n) j (rw (← length-take-le n l room) e)
+
+  pub front_stored : (before : ℕ → List T) → length (before n) ≤ n → (out : List T) → out ≡ sets (take n l) 0 (before (length (take n l)))
+      → (xs : List T) → before n ≡ xs → out ++ drop n l ≡ sets l 0 xs
+  front_stored before few out e xs f = rw (e, length-take-le n l room) (sets_front n (before n) l few room) ∙ ap (sets l 0) f
 
 -- .. of numbers that are held as they are
-pub front_stored : (n : ℕ) (l out : List ℕ) → n ≤ length l → (one : Reader ℕ) (s : List ℕ) (i : ℕ) → out ≡ sets (take n l) 0 (read_before (length (take n l)) one s i)
+pub numbers_stored : (n : ℕ) (l out : List ℕ) → n ≤ length l → (one : Reader ℕ) (s : List ℕ) (i : ℕ) → out ≡ sets (take n l) 0 (read_before (length (take n l)) one s i)
     → (ns : List ℕ) (j : ℕ) → times n one s i ≡ found ns j → out ++ drop n l ≡ sets l 0 ns
-front_stored n l out room one s i e ns j f =
-    rw (e, length-take-le n l room) (sets_front n (read_before n one s i) l (before_few n one s i) room) ∙ ap (sets l 0) (before_found one s n i ns j f)
+numbers_stored n l out room one s i e ns j f =
+    front_stored n l room (λ k. read_before k one s i) (before_few n one s i) out e ns (before_found one s n i ns j f)

@@ -22,7 +22,7 @@ pub part_length : (values : List ℕ) (from n : ℕ) → from + n ≤ length val
 part_length values from n h = length-take-le n (drop from values) (omega (arith, length-drop from values))
 
 -- what is stored behind what was stored
-pub sets_append : (xs ys l : List ℕ) (i : ℕ) → sets l i (xs ++ ys) ≡ sets (sets l i xs) (i + length xs) ys
+pub sets_append : {A : Type 0} (xs ys l : List A) (i : ℕ) → sets l i (xs ++ ys) ≡ sets (sets l i xs) (i + length xs) ys
 sets_append [] ys l i = rw add-zero
 sets_append (x ∷ xs) ys l i =
     let e : i + suc (length xs) ≡ suc i + length xs = omega arith in

@@ -39,7 +39,8 @@ pub before_found : {A : Type 0} (one : Reader A) (s : List ℕ) (n i : ℕ) (xs 
     → read_before n one s i ≡ xs
 before_found one s n i xs j e = all_listed (in_order_lem (λ _. one) kept s) n tt i xs j (sym (times_in_order one n s i) ∙ e)
 
-few_before : {S A : Type 0} (one : S → Reader A) (step : S → A → S) (n : ℕ) (state : S) (s : List ℕ) (i : ℕ) → length (in_order_before one step n state s i) ≤ n
+-- .. and no more than the run has
+pub few_before : {S A : Type 0} (one : S → Reader A) (step : S → A → S) (n : ℕ) (state : S) (s : List ℕ) (i : ℕ) → length (in_order_before one step n state s i) ≤ n
 unfolding in_order_before
 few_before one step zero state s i = omega arith
 few_before {S} {A} one step (suc n) state s i = go (one state s i) (λ a j. few_before one step n (step state a) s j)
@@ -49,6 +50,5 @@ few_before {S} {A} one step (suc n) state s i = go (one state s i) (λ a j. few_
     go (found a j) few = omega (arith, few a j)
     go (refused r) few = omega arith
 
--- .. and no more than the run has
 pub before_few : {A : Type 0} (n : ℕ) (one : Reader A) (s : List ℕ) (i : ℕ) → length (read_before n one s i) ≤ n
 before_few n one s i = few_before (λ _. one) (λ _ _. tt) n tt s i

@@ -22,6 +22,7 @@ pub trait Held: Copy {
         requires { number ≤ most }
         ensures { result ∷ [] ≡ held (number ∷ []) };
 
+    // A member with its laws, and no `From`.
     fn number(self) -> u64
         ensures { result ∷ [] ≡ numbers (self ∷ []) };
 
@@ -35,6 +36,7 @@ pub trait Held: Copy {
     ghost numbers_more: { (x : Self) (xs : List Self) → numbers (x ∷ xs) ≡ numbers (x ∷ []) ++ numbers xs };
 }
 
+// The two instances: they differ in `most` and in how a number is held, and no macro may write an impl.
 impl Held for u8 {
     ghost most = { 255 };
 
@@ -51,6 +53,7 @@ impl Held for u8 {
     ghost numbers_more = { λ x xs. refl };
 
     fn hold(number: u32) -> u8 {
+        // At most 255: `TryFrom` has an error that cannot come.
         number as u8
     }
 
@@ -83,7 +86,8 @@ impl Held for u32 {
     }
 }
 
-// Whether a number is from `low` to `high`: the range test of readers and writers.
+// Whether a number is from `low` to `high`: the range test of readers and writers. Here and above both bounds are handed one by one: a `RangeInclusive` is no
+// `Copy` and may have ended.
 pub fn is_within(value: u64, low: u64, high: u64) -> bool
     ensures { result ≡ within low high value }
 {

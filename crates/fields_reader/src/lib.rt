@@ -44,6 +44,7 @@ pub fn read_field(input: &mut Input, low: u32, high: u32, why: Reason) -> Result
         fields::is_within(value, u64::from(low), u64::from(high)),
         why,
     )?;
+    // At most `high`: `TryFrom` has an error that cannot come.
     Ok(value as u32)
 }
 

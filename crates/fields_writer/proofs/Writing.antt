@@ -1,18 +1,27 @@
 -- Bytes that are written one piece after the other.
-use Rattle.std.proofs.Common.{◌≡◌, ℕ, ◌+◌, ◌<◌, List, [], ◌∷◌, ◌++◌, length, drop, get_or, refl, sym, ap, ◌∙◌, arith, length-append, add-one}
+use Rattle.std.proofs.Common.{◌≡◌, ℕ, ◌+◌, ◌<◌, ◌≤◌, List, [], ◌∷◌, ◌++◌, length, take, drop, get_or, refl, sym, ap, ◌∙◌, arith, length-append, add-one}
 use mathlib.Core.List.{flat_map}
 use Rattle.std.proofs.Math.ListN.{length-set}
 use Rattle.std.proofs.Math.Seq.{sets, length-sets, drop-cons}
 use Rattle.fields.proofs.Parts.{sets_append}
+use Rattle.fields.proofs.Tables.{list_part}
 use Rattle.number.specs.declared.Output.{Output}
+use Rattle.number.specs.Numbers.{encode}
 use Rattle.number.specs.Outputs.{HasRoom, Writes}
+use Rattle.fields_writer.specs.Pieces.{listed, front_bytes}
 
--- a buffer that is written to keeps its length
-pub kept_length : (l' l vs : List ℕ) (i : ℕ) → l' ≡ sets l i vs → length l' ≡ length l
-kept_length l' l vs i e = ap length e ∙ length-sets l i vs
+-- what a plan begins with is as long whatever its opening
+pub front_long : (opening : List ℕ) (goal cost : ℕ)
+    → length (front_bytes opening goal cost) ≡ 2 + length (encode 1) + length (encode goal) + length (encode cost)
+unfolding front_bytes
+front_long opening goal cost = omega (arith, length-append (encode 1 ++ encode goal) (encode cost), length-append (encode 1) (encode goal))
 
 -- what two pieces need, and leave
-pub ruleset writing = (length-append, length-set, kept_length, sets_append)
+pub ruleset writing = (length-append, length-set, length-sets, sets_append, front_long)
+
+-- what is listed is the front of the array
+pub front_listed : (values : List ℕ) (n : ℕ) → n ≤ length values → take n values ≡ listed values n
+front_listed values n few = sym (list_part values n few)
 
 -- a loop over pieces: of the bytes that are to stand from `start` on, `left` is to be written
 pub record Writing (bytes : List ℕ) (start : Output) (left : List ℕ) (now : Output) : Type 0 where
@@ -34,7 +43,7 @@ module _ {bytes : List ℕ} {start : Output} where
       pub writing_more : (next : Output) → Writes xs now next → Writing bytes start ys next
       writing_more next h = record {
         same = h.0 ∙ w.same;
-        room = omega (arith, w.room, h.1, kept_length next.buffer.now now.buffer.now xs now.at h.2, ap length e, length-append xs ys);
+        room = omega (arith, w.room, h.1, ap length h.2 ∙ length-sets now.buffer.now now.at xs, ap length e, length-append xs ys);
         ends = w.ends ∙ omega (arith, h.1, ap length e, length-append xs ys);
         means = w.means ∙ ap (sets now.buffer.now now.at) e ∙ sets_append xs ys now.buffer.now now.at ∙ rw (h.1, h.2);
       }

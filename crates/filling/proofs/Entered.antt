@@ -9,8 +9,8 @@ use mathlib.Core.Path.{◌≡◌, refl, sym, ap, ◌∙◌}
 use native.Mathlib.Nat.{eq-zero-or-pos}
 use native.Mathlib.Omega.{arith}
 use lib.Dec.{ltb}
-use lib.ListN.{get_or}
-use borrow.Author.Tests.{eq-eqb, ne_eqb}
+use lib.ListN.{get_or, replicate}
+use borrow.Author.Tests.{eq-eqb, ne_eqb, lt-ltb}
 use Rattle.queue.specs.declared.Queue.{Queue}
 use Rattle.sequencing.specs.Lists.{at, sum}
 use Rattle.sequencing.specs.States.{K, all_left, job, place}
@@ -22,15 +22,16 @@ use Rattle.sequencing.proofs.Equations.{value_none_left, value_some_left}
 use Rattle.problem.specs.OfQueue.{problem}
 use Rattle.problem.proofs.Rule.{jobs_is}
 use Rattle.jobs_left.specs.declared.JobsLeft.{JobsLeft}
+use Rattle.jobs_left.specs.Kinds.{kind_at}
 use Rattle.jobs_left.specs.Steps.{LeftOf}
 use Rattle.layout.specs.declared.Setup.{Setup}
-use Rattle.layout.specs.PlaceSets.{places_from}
+use Rattle.layout.specs.PlaceSets.{set_at}
 use Rattle.layout.specs.Prepared.{earliest_at, latest_at}
 use Rattle.layout.proofs.PlaceSets.{in_places}
-use Rattle.layout.proofs.Prepared.{permitted_at, slot_used, earliest_at_lem, latest_at_lem, latest_few}
+use Rattle.layout.proofs.Prepared.{permitted_at, slot_used, places_here, latest_few}
 use Rattle.next_states.proofs.Numbers.{left_is}
 use Rattle.filling.specs.Filling.{in_place, weight_of, entry_from, Fillable}
-use Rattle.filling.proofs.Values.{Look, least_is, ready}
+use Rattle.filling.proofs.Values.{TableAt, least_is, ready}
 
 only_and : (a b : Bool) (r : Option ℕ) → only (a && b) r ≡ only a (only b r)
 only_and true b r = refl
@@ -38,9 +39,9 @@ only_and false b r = refl
 
 -- the places permitted to each kind's job just cut, as sets
 abbrev pub PlacesOf : Setup → (places : List ℕ) → Type 0
-PlacesOf s places = (i : ℕ) → i < s.queue.jobs + s.queue.kinds → get_or places i 0 ≡ places_from (get_or s.layout.earliest i 0) (get_or s.layout.latest i 0)
+PlacesOf s places = (i : ℕ) → get_or places i 0 ≡ set_at s.layout.places (s.queue.jobs + s.queue.kinds) (replicate 65 0) i
 
-module _ (s : Setup) {table : List ℕ} {n : JobsLeft} (look : Look s.queue table n.left n.index) (of : LeftOf (problem s.queue) n) where
+module _ (s : Setup) {table : List ℕ} {n : JobsLeft} (seen : TableAt s.queue table n.left n.index) (of : LeftOf (problem s.queue) n) where
   abbrev q : Queue
   q = s.queue
 
@@ -53,7 +54,7 @@ module _ (s : Setup) {table : List ℕ} {n : JobsLeft} (look : Look s.queue tabl
 
   -- what filling the states of this k may rely on
   pub fillable : Fillable q table n
-  fillable = record { left_of = of; room = look.room; ready = λ L a b. rw weight_is (ready look L b) }
+  fillable = record { left_of = of; ready = λ L a b. rw weight_is (ready seen L b) }
 
   module _ (places : List ℕ) (sets : PlacesOf s places) {here : ℕ} (place_is : here ≡ 2 ^ (q.jobs - n.jobs)) where
     -- 01's place of the jobs just cut
@@ -65,20 +66,21 @@ module _ (s : Setup) {table : List ℕ} {n : JobsLeft} (look : Look s.queue tabl
 
     -- the place that is looked up is permitted where the recursion permits it
     in_place_lem : (L : ℕ) → 1 ≤ L → L ≤ q.kinds
-        → in_place n.left s.layout.slots places here L ≡ (ltb (at k L) (K (problem q) L) && (problem q).ok (job (problem q) L k) (place (problem q) k))
+        → in_place n.left s.layout.kinds places here L ≡ (ltb (at k L) (K (problem q) L) && (problem q).ok (job (problem q) L k) (place (problem q) k))
     in_place_lem L a b =
         let v = s.valid in
         let p = s.prepared in
-        let used : at s.layout.slots L + at k L < q.jobs + q.kinds = omega (arith, slot_used v p L (at k L) a b (few L), p.jobs_are, p.kinds_are) in
-        rw (left_is look.left_at L a, sets _ used, earliest_at_lem v p L (at k L) a b (few L), latest_at_lem v p L (at k L) a b (few L), place_is, there)
+        let slot = (kind_at s.layout.kinds L).slot + at k L in
+        let used : slot < q.jobs + q.kinds = omega (arith, slot_used v p L (at k L) a b (few L), p.jobs_are, p.kinds_are) in
+        rw (left_is seen.left_at L a, sets slot, lt-ltb slot (q.jobs + q.kinds) used, places_here v p L (at k L) a b (few L), place_is, there)
         (in_places (earliest_at q L (at k L)) (latest_at q L (at k L)) (place (problem q) k) (latest_few v p L (at k L) a b) ∙ permitted_at q L (at k L) (place (problem q) k))
 
     -- what an entry gets is its state's value
-    pub entry_is_value : (L : ℕ) → 1 ≤ L → L ≤ q.kinds → entry_from q table n (in_place n.left s.layout.slots places here) L ≡ value (problem q) L k
+    pub entry_is_value : (L : ℕ) → 1 ≤ L → L ≤ q.kinds → entry_from q table n (in_place n.left s.layout.kinds places here) L ≡ value (problem q) L k
     unfolding entry_from
     entry_is_value L a b =
         rw (in_place_lem L a b, weight_is, of.jobs_are)
         (only_and (ltb (at k L) (K (problem q) L)) ((problem q).ok (job (problem q) L k) (place (problem q) k)) _ ∙ elim (eq-zero-or-pos (sum k)) [
           | inl e ↦ rw (eq-eqb (sum k) 0 e) (sym (value_none_left (problem q) L k e))
-          | inr h ↦ rw (ne_eqb (sum k) 0 (λ e. omega arith)) (ap (permit (problem q) L k) (least_is look L) ∙ sym (value_some_left (problem q) L k h))
+          | inr h ↦ rw (ne_eqb (sum k) 0 (λ e. omega arith)) (ap (permit (problem q) L k) (least_is seen L) ∙ sym (value_some_left (problem q) L k h))
         ])

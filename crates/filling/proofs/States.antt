@@ -3,7 +3,6 @@
 use Prim.Native.Nat.{ℕ, suc, ◌+◌, ◌-◌, ◌*◌, ◌/◌, ◌^◌, ◌<◌, ◌≤◌}
 use mathlib.Core.Bool.{Bool, true, false, false≢true}
 use mathlib.Core.List.{List, map}
-use Rattle.std.specs.Prelude.{is_some, Some, None}
 use mathlib.Core.Logic.{◌≢◌}
 use mathlib.Core.Option.{Option, none, some}
 use mathlib.Core.Path.{◌≡◌, refl, sym, ap, ◌∙◌}
@@ -14,30 +13,31 @@ use lib.Arith.{digits_lt, digits_div}
 use lib.ListN.{length, get_or, set, length-set}
 use lib.Seq.{get_or-set_same, get_or-set_other}
 use borrow.Author.Count.{below_more}
-use Rattle.sequencing.specs.Lists.{from, upto, sum}
-use Rattle.sequencing.specs.Problem.{Problem}
-use Rattle.sequencing.specs.Counts.{valued}
-use Rattle.sequencing.specs.Entries.{k_at, number, block, entries, stored}
-use Rattle.sequencing.proofs.Sums.{sum_more}
-use Rattle.problem.specs.OfQueue.{problem}
-use Rattle.problem.proofs.Sizes.{entries_small}
-use Rattle.layout.specs.declared.Setup.{Setup}
-use Rattle.layout.proofs.Prepared.{block_at}
-use Rattle.next_states.proofs.Numbers.{number_at}
-use Rattle.next_states.specs.NextStates.{answer, entry_of}
+use borrow.Author.Tests.{eq-eqb, ne_eqb}
+use Rattle.std.specs.Prelude.{is_some, unwrap_or, Some, None}
 use Rattle.queue.specs.declared.Queue.{Queue}
-use Rattle.sequencing.specs.Lists.{at}
+use Rattle.sequencing.specs.Lists.{at, from, upto, sum}
+use Rattle.sequencing.specs.Problem.{Problem}
 use Rattle.sequencing.specs.States.{K}
 use Rattle.sequencing.specs.Least.{only}
+use Rattle.sequencing.specs.Counts.{valued}
+use Rattle.sequencing.specs.Entries.{k_at, number, block, entries, stored}
 use Rattle.sequencing.proofs.Entries.{left_digits}
+use Rattle.sequencing.proofs.Sums.{sum_more}
 use Rattle.sequencing.proofs.Vectors.{at_sum}
+use Rattle.problem.specs.OfQueue.{problem}
+use Rattle.problem.proofs.Sizes.{entries_small}
 use Rattle.jobs_left.specs.declared.JobsLeft.{JobsLeft}
+use Rattle.jobs_left.specs.declared.Kind.{Kind}
+use Rattle.jobs_left.specs.declared.StepWeight.{StepWeight}
+use Rattle.jobs_left.specs.Kinds.{kind_at, step_of, factor}
 use Rattle.jobs_left.specs.Steps.{LeftOf}
-use Rattle.layout.proofs.Prepared.{slot_in}
-use Rattle.next_states.specs.NextStates.{none_of, Ready}
-use Rattle.next_states.proofs.Numbers.{left_is}
+use Rattle.jobs_left.proofs.Weights.{factor_is}
+use Rattle.layout.specs.declared.Setup.{Setup}
+use Rattle.layout.proofs.Prepared.{kind_is, slot_in}
+use Rattle.next_states.specs.NextStates.{answer, none_of, Ready}
 use Rattle.next_states.proofs.Candidates.{loaded_next, length_next, none_least, none_of_lem}
-use borrow.Author.Tests.{eq-eqb, ne_eqb}
+use Rattle.next_states.proofs.Numbers.{number_at, left_is}
 use Rattle.filling.specs.Filling.{value_by, StatesStored, next_of, weight_of, entry_from}
 
 -- an entry stands in one block
@@ -56,26 +56,26 @@ unfolding from sum
 kinds_none = record { long = refl; done = λ l h. absurd (omega arith); rest = λ n h. refl; many = refl }
 
 -- a kind's block, from 0, and what the running number makes with it
-pub block_fits : (s : Setup) {i kind : ℕ} → i < block (problem s.queue) → kind < s.queue.kinds → (kind < 5) × (i + get_or s.layout.blocks kind 0 < 2 ^ 64)
+pub block_fits : (s : Setup) {i kind : ℕ} → i < block (problem s.queue) → kind < s.queue.kinds → (kind < 5) × (i + (kind_at s.layout.kinds (suc kind)).block < 2 ^ 64)
 block_fits s {i} {kind} within h =
     let e : suc kind - 1 ≡ kind = omega arith in
-    let is : get_or s.layout.blocks kind 0 ≡ kind * block (problem s.queue) = rw e at (block_at s.valid s.prepared (suc kind) (omega arith) h) in
+    let is : (kind_at s.layout.kinds (suc kind)).block ≡ kind * block (problem s.queue) =
+    ap (λ (k : Kind). k.block) (kind_is s.valid s.prepared (suc kind) (omega arith) h) ∙ ap (λ (n : ℕ). n * block (problem s.queue)) e in
     let inside : kind * block (problem s.queue) + i < entries (problem s.queue) = digits_lt h within in
-    (omega (arith, s.valid.kinds), rw is (omega (arith, inside, entries_small s.queue s.valid)))
+    (omega (arith, s.valid.kinds), omega (arith, is, inside, entries_small s.queue s.valid))
 
 -- its entry is in a table that is long enough
-pub entry_in : (s : Setup) {i kind at : ℕ} (table₀ table : List ℕ) → (i < block (problem s.queue)) × (entries (problem s.queue) ≤ length table₀) → kind < s.layout.size.kinds
-    → (i < block (problem s.queue) → kind < s.queue.kinds → at ≡ number (problem s.queue) (suc kind) (k_at (problem s.queue) i)) → length table ≡ length table₀
-    → (at < entries (problem s.queue)) × (at < length table)
-entry_in s {i} {kind} {at} table₀ table room h is long =
-    let low : kind < s.queue.kinds = omega (arith, h, s.prepared.kinds_are) in
-    let below : at < entries (problem s.queue) = rw (is room.0 low ∙ number_at (problem s.queue) kind i room.0) (digits_lt low room.0) in
-    (below, omega (arith, below, room.1, long))
+pub entry_in : (s : Setup) {i kind at n : ℕ} → i < block (problem s.queue) → entries (problem s.queue) ≤ n → kind < s.queue.kinds
+    → at ≡ number (problem s.queue) (suc kind) (k_at (problem s.queue) i) → (at < n) × (at < 2 ^ 60)
+entry_in s {i} {kind} within room h is =
+    let at_is = is ∙ number_at (problem s.queue) kind i within in
+    let inside : kind * block (problem s.queue) + i < entries (problem s.queue) = digits_lt h within in
+    (omega (arith, at_is, inside), omega (arith, at_is, inside, entries_small s.queue s.valid))
 
 -- what an answer says
 found_is : (v : Option ℕ) {n : ℕ} → Some n ≡ answer v → v ≡ some n
 found_is none e = absurd (false≢true (sym (ap is_some e)))
-found_is (some c) e = ap some (sym (ap entry_of e))
+found_is (some c) e = ap some (sym (ap (λ r. unwrap_or r 0) e))
 
 none_is : (v : Option ℕ) → None ≡ answer v → v ≡ none
 none_is none e = refl
@@ -118,7 +118,7 @@ kinds_done {P} {i} within {table = table} w = record {
 -- ---- the values of one k
 
 -- its slots lie in their array
-pub slot_in_places : (s : Setup) {k : JobsLeft} → LeftOf (problem s.queue) k → (x : ℕ) → x < s.queue.kinds → (x < 5) × (get_or s.layout.slots x 0 + get_or k.left x 0 < 65)
+pub slot_in_places : (s : Setup) {k : JobsLeft} → LeftOf (problem s.queue) k → (x : ℕ) → x < s.queue.kinds → (x < 5) × ((kind_at s.layout.kinds (suc x)).slot + get_or k.left x 0 < 65)
 slot_in_places s {k} w x h =
     let is : get_or k.left x 0 ≡ at (k_at (problem s.queue) k.index) (suc x) = left_is w.left_at (suc x) (omega arith) in
     let few : at (k_at (problem s.queue) k.index) (suc x) ≤ K (problem s.queue) (suc x) = (left_digits (problem s.queue) k.index).within (suc x) in
@@ -128,21 +128,9 @@ only_none : (b : Bool) → only b none ≡ none
 only_none true = refl
 only_none false = refl
 
-module _ (q : Queue) (table : List ℕ) (k : JobsLeft) (permitted : ℕ → Bool) where
+module _ (q : Queue) (table : List ℕ) (k : JobsLeft) where
   abbrev next : List ℕ
   next = next_of q table k
-
-  -- nothing is left: 0 where the place is permitted
-  pub entry_last : k.jobs ≡ 0 → (L : ℕ) → only (permitted L) (some 0) ≡ entry_from q table k permitted L
-  unfolding entry_from
-  entry_last e L = rw (eq-eqb k.jobs 0 e)
-
-  -- some is left, and no next state has a value
-  pub entry_none : k.jobs ≢ 0 → none_of next ≡ true → (L : ℕ) → none ≡ entry_from q table k permitted L
-  unfolding entry_from
-  entry_none n e L =
-      rw (ne_eqb k.jobs 0 n, none_least next q.gaps L (weight_of q table k) (length_next (problem q) table (k_at (problem q) k.index)) e)
-      (sym (only_none (permitted L)))
 
   -- some next state has a value, so some is left
   some_left : LeftOf (problem q) k → none_of next ≡ false → k.jobs ≢ 0
@@ -151,12 +139,26 @@ module _ (q : Queue) (table : List ℕ) (k : JobsLeft) (permitted : ℕ → Bool
       let none-there : at (k_at (problem q) k.index) x ≡ 0 = omega (arith, at_sum (k_at (problem q) k.index) x, w.jobs_are) in
       loaded_next (problem q) table (k_at (problem q) k.index) x l (omega (arith, length_next (problem q) table (k_at (problem q) k.index))) ∙ rw none-there)
 
-  -- then the values by the next states that were loaded, the gaps that were prepared, and 01's W
-  module _ {loaded_next gaps : List ℕ} {weight : ℕ} (next_is : loaded_next ≡ next) (gaps_are : gaps ≡ q.gaps) (weight_is : weight ≡ weight_of q table k) where
-    pub entry_value : LeftOf (problem q) k → none_of loaded_next ≡ false → (L : ℕ) → value_by loaded_next gaps weight (permitted L) L ≡ entry_from q table k permitted L
-    unfolding entry_from
-    entry_value w e L = rw (next_is, gaps_are, weight_is, ne_eqb k.jobs 0 (some_left w (rw next_is at e)))
+  -- by the next states that were loaded, the gaps that were prepared, and 01's W
+  module _ {loaded gaps : List ℕ} {weight : StepWeight} (next_is : loaded ≡ next) (gaps_are : gaps ≡ q.gaps) (weight_is : weight ≡ step_of q.goal k.weight) where
+    pub ready_here : {row : ℕ} → Ready next q.gaps row (weight_of q table k) → Ready loaded gaps row (factor weight)
+    ready_here r = rw (next_is, gaps_are, weight_is, factor_is q.goal k.weight) r
 
-pub ready_here : (q : Queue) (table : List ℕ) (k : JobsLeft) → {loaded_next gaps : List ℕ} {weight row : ℕ} → loaded_next ≡ next_of q table k → gaps ≡ q.gaps → weight ≡ weight_of q table k
-    → Ready (next_of q table k) q.gaps row (weight_of q table k) → Ready loaded_next gaps row weight
-ready_here q table k next_is gaps_are weight_is r = rw (next_is, gaps_are, weight_is) r
+    -- some next state has a value
+    pub entry_value : LeftOf (problem q) k → none_of loaded ≡ false → (permitted : ℕ → Bool) (L : ℕ)
+        → value_by loaded gaps (factor weight) (permitted L) L ≡ entry_from q table k permitted L
+    unfolding entry_from
+    entry_value w e permitted L = rw (next_is, gaps_are, weight_is, factor_is q.goal k.weight, ne_eqb k.jobs 0 (some_left w (rw next_is at e)))
+
+  module _ (permitted : ℕ → Bool) where
+    -- nothing is left: 0 where the place is permitted
+    pub entry_last : k.jobs ≡ 0 → (L : ℕ) → only (permitted L) (some 0) ≡ entry_from q table k permitted L
+    unfolding entry_from
+    entry_last e L = rw (eq-eqb k.jobs 0 e)
+
+    -- some is left, and no next state has a value
+    pub entry_none : k.jobs ≢ 0 → none_of next ≡ true → (L : ℕ) → none ≡ entry_from q table k permitted L
+    unfolding entry_from
+    entry_none n e L =
+        rw (ne_eqb k.jobs 0 n, none_least next q.gaps L (weight_of q table k) (length_next (problem q) table (k_at (problem q) k.index)) e)
+        (sym (only_none (permitted L)))

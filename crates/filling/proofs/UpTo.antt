@@ -8,7 +8,7 @@ use native.Mathlib.Nat.{zero-add, mul_comm, mul-le-mul, suc-mul, eq-or-lt_of_le}
 use native.Mathlib.Numerals.{add-one}
 use native.Mathlib.Omega.{arith}
 use lib.Arith.{digits_mod}
-use lib.ListN.{length, get_or, take, drop, replicate}
+use lib.ListN.{length, get_or, take, replicate}
 use Rattle.queue.specs.declared.Queue.{Queue}
 use Rattle.sequencing.specs.Lists.{from, upto, sum}
 use Rattle.sequencing.specs.States.{all_left}
@@ -21,13 +21,16 @@ use Rattle.problem.specs.OfQueue.{problem}
 use Rattle.problem.proofs.Queues.{counted_by_left}
 use Rattle.problem.proofs.Sizes.{entries_small}
 use Rattle.jobs_left.specs.declared.JobsLeft.{JobsLeft}
-use Rattle.jobs_left.specs.Steps.{next, Summed, LeftOf}
+use Rattle.jobs_left.specs.declared.Kind.{Kind}
+use Rattle.jobs_left.specs.Kinds.{weights_of}
+use Rattle.jobs_left.specs.Steps.{Summed, LeftOf}
+use Rattle.jobs_left.proofs.Stepping.{Stepped}
 use Rattle.layout.specs.declared.Setup.{Setup}
 use Rattle.next_states.proofs.Numbers.{number_at}
 use Rattle.filling.specs.Filling.{Earlier, in_place, StatesStored, entry_from, Fillable}
-use Rattle.filling.proofs.Values.{Look}
+use Rattle.filling.proofs.Values.{TableAt}
 use Rattle.filling.proofs.Entered.{PlacesOf, fillable, entry_is_value}
-use Rattle.filling.proofs.Counting.{Counting, counting_none, left_here, counting_more}
+use Rattle.filling.proofs.Counting.{kinds_of, Counting, counting_none, left_here, counting_more}
 use Rattle.filling.proofs.Tables.{entry_below, filled_table}
 
 -- the states with index i that are feasible
@@ -62,7 +65,7 @@ module _ (s : Setup) where
     place_is = e ∙ ap (λ (n : ℕ). 2 ^ n) (omega (arith, s.prepared.jobs_are));
   }
 
-  module _ {table₀ : List ℕ} (room : entries (problem q) ≤ length table₀) {table : List ℕ} {feasible : ℕ} {k : JobsLeft} {here : ℕ} (w : UpTo q table₀ table feasible k here) (h : k.index < s.layout.size.block) where
+  module _ {table₀ table : List ℕ} {feasible : ℕ} {k : JobsLeft} {here : ℕ} (w : UpTo q table₀ table feasible k here) (h : k.index < s.layout.size.block) where
     in_here : k.index < block (problem q)
     in_here = omega (arith, s.prepared.block_is)
 
@@ -70,8 +73,8 @@ module _ (s : Setup) where
     left_of = left_here s.valid s.prepared w.counting h
 
     -- the table as the states of this k see it
-    looking : Look q table k.left k.index
-    looking = record { valid = s.valid; earlier = w.done; room = omega (arith, w.long, room); left_at = left_of.left_at }
+    seen : TableAt q table k.left k.index
+    seen = record { valid = s.valid; earlier = w.done; left_at = left_of.left_at }
 
     -- the place of the jobs just cut, by what is prepared
     pub here_is : here ≡ 2 ^ (s.layout.size.jobs - k.jobs)
@@ -79,7 +82,7 @@ module _ (s : Setup) where
 
     -- what filling them may rely on
     pub fills : Fillable q table k
-    fills = fillable s looking left_of
+    fills = fillable s seen left_of
 
     -- where (L; k) stands
     entry_at : (L : ℕ) → 1 ≤ L → number (problem q) L (digits (all_left (problem q)) k.index) ≡ (L - 1) * block (problem q) + k.index
@@ -91,9 +94,10 @@ module _ (s : Setup) where
         let same : j ≡ k.index = sym (digits_mod (L - 1) {m = block (problem q)} (omega (arith, in_here))) ∙ ap (λ (n : ℕ). n % block (problem q)) e ∙ digits_mod (M - 1) in_here in
         omega arith
 
-    module _ (places : List ℕ) {table' : List ℕ} {more : ℕ} (sets : PlacesOf s places) (f : StatesStored (problem q) (entry_from q table k (in_place k.left s.layout.slots places here)) table k.index table' more) where
-      is_value : (L : ℕ) → 1 ≤ L → L ≤ q.kinds → entry_from q table k (in_place k.left s.layout.slots places here) L ≡ value (problem q) L (digits (all_left (problem q)) k.index)
-      is_value = entry_is_value s looking left_of places sets w.place_is
+    module _ (places : List ℕ) {table' : List ℕ} {more : ℕ} (sets : PlacesOf s places)
+        (f : StatesStored (problem q) (entry_from q table k (in_place k.left s.layout.kinds places here)) table k.index table' more) where
+      is_value : (L : ℕ) → 1 ≤ L → L ≤ q.kinds → entry_from q table k (in_place k.left s.layout.kinds places here) L ≡ value (problem q) L (digits (all_left (problem q)) k.index)
+      is_value = entry_is_value s seen left_of places sets w.place_is
 
       more_is : more ≡ counted_at q k.index
       more_is =
@@ -120,15 +124,14 @@ module _ (s : Setup) where
             entries_small q s.valid,
           )
 
-      pub upto_more : (k' : JobsLeft) {here' : ℕ}
-          → take s.layout.size.kinds k'.left ≡ next (take s.layout.size.kinds s.layout.counts) (take s.layout.size.kinds k.left) → drop s.layout.size.kinds k'.left ≡ drop s.layout.size.kinds k.left
-          → Summed q.weights (take s.layout.size.kinds k'.left) k'.jobs k'.weight → k'.index ≡ k.index + 1
+      pub upto_more : {kinds : List Kind} → kinds ≡ kinds_of q → (k' : JobsLeft) {here' : ℕ}
+          → Stepped kinds k.left k'.left → Summed (weights_of kinds) (take (length kinds) k'.left) k'.jobs k'.weight → k'.index ≡ k.index + 1
           → here' ≡ 2 ^ (s.layout.size.jobs - k'.jobs) → UpTo q table₀ table' (feasible + more) k' here'
-      upto_more k' stepped rest summed e there =
+      upto_more kinds_are k' stepped summed e there =
           let on : k'.index ≡ suc k.index = e ∙ add-one k.index in
           record {
             long = f.long ∙ w.long;
-            counting = counting_more s.valid s.prepared w.counting h k' stepped summed rest on;
+            counting = counting_more s.valid s.prepared w.counting h kinds_are k' stepped summed on;
             done = rw on stored_so_far;
             past = λ n b. f.rest n (λ L a u e. omega (arith, entry_below (problem q) L k.index a u in_here, entry_at L a, e)) ∙ w.past n b;
             counted = rw (on, sum_more, zero-add k.index) (omega (arith, w.counted, more_is));

@@ -8,7 +8,7 @@ use mathlib.Core.Path.{◌≡◌, sym, ap, ◌∙◌}
 use native.Mathlib.Nat.{eq-zero-or-pos}
 use native.Mathlib.Omega.{arith}
 use lib.Dec.{eqb, ltb}
-use lib.ListN.{length, get_or}
+use lib.ListN.{get_or}
 use borrow.Author.Tests.{ltb-true}
 use Rattle.number.proofs.Steps.{bool_cases}
 use Rattle.units.specs.declared.Seconds.{Seconds}
@@ -21,7 +21,7 @@ use Rattle.sequencing.specs.Lists.{at, sum}
 use Rattle.sequencing.specs.States.{complete, all_left}
 use Rattle.sequencing.specs.Least.{least, arg_least}
 use Rattle.sequencing.specs.Recursion.{W, value, choice}
-use Rattle.sequencing.specs.Entries.{digits, number, stride, block, entries, stored}
+use Rattle.sequencing.specs.Entries.{digits, number, stride, block, stored}
 use Rattle.sequencing.proofs.AllJobs.{length_all, left_small}
 use Rattle.sequencing.proofs.Bounds.{weigh_le}
 use Rattle.sequencing.proofs.Entries.{left_digits}
@@ -45,13 +45,12 @@ use Rattle.filling.specs.Filling.{Earlier}
 -- ---- a table, looked at from one k
 
 -- the entries of the indices before i are filled, and `left` holds the k of index i
-pub record Look (q : Queue) (table left : List ℕ) (i : ℕ) : Type 0 where
+pub record TableAt (q : Queue) (table left : List ℕ) (i : ℕ) : Type 0 where
   pub valid : Valid q
   pub earlier : Earlier (problem q) table i
-  pub room : entries (problem q) ≤ length table
   pub left_at : LeftAt (problem q) left i
 
-module _ {q : Queue} {table left : List ℕ} {i : ℕ} (s : Look q table left i) where
+module _ {q : Queue} {table left : List ℕ} {i : ℕ} (s : TableAt q table left i) where
   abbrev k : List ℕ
   k = digits (all_left (problem q)) i
 

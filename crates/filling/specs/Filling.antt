@@ -7,10 +7,12 @@ use Rattle.sequencing.specs.Problem.{Problem}
 use Rattle.sequencing.specs.States.{all_left}
 use Rattle.sequencing.specs.Least.{only, least}
 use Rattle.sequencing.specs.Recursion.{value}
-use Rattle.sequencing.specs.Entries.{digits, k_at, number, block, entries, stored}
+use Rattle.sequencing.specs.Entries.{digits, k_at, number, block, stored}
 use Rattle.sequencing.specs.Counts.{valued}
 use Rattle.problem.specs.OfQueue.{problem}
 use Rattle.jobs_left.specs.declared.JobsLeft.{JobsLeft}
+use Rattle.jobs_left.specs.declared.Kind.{Kind}
+use Rattle.jobs_left.specs.Kinds.{kind_at}
 use Rattle.jobs_left.specs.Steps.{LeftOf}
 use Rattle.layout.specs.PlaceSets.{is_in}
 use Rattle.next_states.specs.NextStates.{answer, next_values, candidate, Ready}
@@ -37,8 +39,8 @@ pub record StatesStored (P : Problem) (f : ℕ → Option ℕ) (table : List ℕ
   pub many : feasible ≡ sum (map (λ L. valued (f L)) (upto P.N))
 
 -- whether kind L's job just cut may stand at a place, told by its bit
-abbrev pub in_place : (left slots places : List ℕ) (here : ℕ) → ℕ → Bool
-in_place left slots places here L = is_in here (get_or places (at slots L + at left L) 0)
+abbrev pub in_place : (left : List ℕ) (kinds : List Kind) (places : List ℕ) (here : ℕ) → ℕ → Bool
+in_place left kinds places here L = is_in here (get_or places ((kind_at kinds L).slot + at left L) 0)
 
 module _ (q : Queue) (table : List ℕ) (k : JobsLeft) where
   -- the entries of the states that follow k
@@ -56,5 +58,4 @@ module _ (q : Queue) (table : List ℕ) (k : JobsLeft) where
   -- what filling the states of one k may rely on
   pub record Fillable : Type 0 where
     pub left_of : LeftOf (problem q) k
-    pub room : entries (problem q) ≤ length table
     pub ready : (L : ℕ) → 1 ≤ L → L ≤ q.kinds → Ready next_of q.gaps L weight_of

@@ -7,37 +7,42 @@ ghost use Rattle.sequencing.specs.Least.{only};
 ghost use Rattle.sequencing.specs.Entries.{block, entries, FilledTable};
 ghost use Rattle.sequencing.specs.Counts.{feasible_states};
 ghost use Rattle.problem.specs.OfQueue.{problem};
+ghost use Rattle.jobs_left.specs.Kinds.{kind_at, factor};
+ghost use Rattle.jobs_left.specs.Steps.{LeftAt};
 ghost use Rattle.next_states.specs.NextStates.{answer, Ready};
-ghost use Rattle.filling.specs.Filling.{value_by, Answers, StatesStored, in_place, entry_from, Fillable};
+ghost use Rattle.filling.specs.Filling.{value_by, Answers, StatesStored, in_place, next_of, entry_from, Fillable};
 
-use gaps::GapTable;
-use jobs_left::{JobsLeft, StepWeight};
+use jobs_left::JobsLeft;
 use layout::Setup;
+use next_states::Look;
 
-// Whether the job of a kind (from 0) that was just cut may stand at a place, told by its bit.
+// A queue's lent table, long enough for its entries.
+#[derive(Drop)]
+pub struct Lent<'a> {
+    pub setup: &'a Setup,
+    pub table: &'a mut [u64],
+    pub ghost room: { entries (problem setup.now.queue) ≤ length table.now },
+}
+
+// Whether the job of a kind (from 0) that was just cut may stand at a place, told by its bit. That a kind is below 5, here and elsewhere, is the bound of an
+// index: a type for it would be no plainer.
 fn is_permitted(setup: &Setup, k: &JobsLeft, places: &[u64; 65], here: u64, kind: usize) -> bool
-    requires { (kind < 5) × (get_or setup.now.layout.slots kind 0 + get_or k.now.left kind 0 < 65) }
-    ensures { result ≡ in_place k.now.left setup.now.layout.slots places.now here (suc kind) }
+    requires { (kind < 5) × ((kind_at setup.now.layout.kinds (suc kind)).slot + get_or k.now.left kind 0 < 65) }
+    ensures { result ≡ in_place k.now.left setup.now.layout.kinds places.now here (suc kind) }
 {
-    let slot = setup.layout.slots[kind] + k.left[kind] as usize;
+    // No `From` makes a `usize` of 32 bits.
+    let slot = setup.layout.kinds[kind].slot + k.left[kind] as usize;
     0 < places[slot] & here
 }
 
-// The value of one state with jobs left, none where it is not feasible.
-fn state_value(
-    next: &[u64; 5],
-    gaps: &GapTable,
-    permitted: bool,
-    kind: usize,
-    weight: StepWeight,
-) -> Option<u64>
-    requires { Ready next.now gaps.now.numbers kind weight.weight }
-    ensures { result ≡ answer (value_by next.now gaps.now.numbers weight.weight permitted kind) }
+// The value of one state with jobs left, by a look from its kind: none where it is not feasible.
+fn state_value(look: &Look, permitted: bool) -> Option<u64>
+    ensures { result ≡ answer (value_by look.now.next.now look.now.gaps.now.numbers (factor look.now.weight) permitted look.now.row) }
 {
     if !permitted {
         return None;
     }
-    let least = next_states::least_next(next, gaps, kind, weight)?;
+    let least = look.least()?;
     Some(least.cost.number())
 }
 
@@ -45,58 +50,7 @@ fn state_value(
 fn last_value(permitted: bool) -> Option<u64>
     ensures { result ≡ answer (only permitted (some 0)) }
 {
-    if permitted {
-        return Some(0);
-    }
-    None
-}
-
-// Stores the entries of all states with one k, whose value a function of the kind (from 0) gives; returns how many of them hold one.
-fn store_states<F: Fn(usize) -> Option<u64>>(
-    setup: &Setup,
-    table: &mut [u64],
-    index: usize,
-    value: F,
-) -> u64
-    requires room { (index < block (problem setup.now.queue)) × (entries (problem setup.now.queue) ≤ length table.old) }
-    requires callable { (x : ℕ) → x < setup.now.queue.kinds → F.pre value x }
-    ensures { (f : ℕ → OrNone ℕ) → Answers setup.now.queue.kinds (F.post value) f → StatesStored (problem setup.now.queue) f table.old index table.new result }
-{
-    let mut feasible: u64 = 0;
-    for kind in 0..setup.layout.size.kinds {
-        let entry = next_states::state_entry(&setup.layout, index, kind);
-        match value(kind) {
-            Some(found) => {
-                table[entry] = found;
-                feasible += 1;
-            }
-            None => table[entry] = next_states::NONE,
-        }
-    }
-    feasible
-}
-
-// Fills the entries of all states with one k; returns how many of them hold a value. Where no next state has one, no state has, and neither places nor gaps
-// are looked at: with a small shift that is nearly every k.
-fn fill_states(setup: &Setup, table: &mut [u64], k: &JobsLeft, places: &[u64; 65], here: u64) -> u64
-    requires { Fillable setup.now.queue table.old k.now }
-    ensures { StatesStored (problem setup.now.queue) (entry_from setup.now.queue table.old k.now (in_place k.now.left setup.now.layout.slots places.now here)) table.old k.now.index table.new result }
-{
-    let next = next_states::load_next(&setup.layout, table, k);
-    if next_states::none_next(&next) {
-        if k.jobs == 0 {
-            return store_states(setup, table, k.index, |kind| {
-                last_value(is_permitted(setup, k, places, here, kind))
-            });
-        }
-        return store_states(setup, table, k.index, |_| None);
-    }
-    let gaps = &setup.layout.gaps;
-    let weight = k.step_weight(setup.queue.goal);
-    store_states(setup, table, k.index, |kind| {
-        let permitted = is_permitted(setup, k, places, here, kind);
-        state_value(&next, gaps, permitted, kind + 1, weight)
-    })
+    permitted.then_some(0)
 }
 
 // The place of the jobs just cut, as a bit: one place earlier where one job more is left, which most steps do; else it is shifted anew.
@@ -112,23 +66,97 @@ fn place_after(here: u64, before: u32, jobs: u32, total: u32) -> u64
     layout::place_bit(total - jobs)
 }
 
-// Fills the table with every state's value; returns how many states are feasible.
-pub fn fill(setup: &Setup, table: &mut [u64]) -> u64
-    requires { entries (problem setup.now.queue) ≤ length table.old }
-    ensures filled_table { FilledTable (problem setup.now.queue) table.old table.new }
-    ensures value { result ≡ feasible_states (problem setup.now.queue) }
-{
-    let layout = &setup.layout;
-    let size = layout.size;
-    let places = setup.place_sets();
-    let mut k = JobsLeft::none();
-    let mut here = layout::place_bit(size.jobs);
-    let mut feasible: u64 = 0;
-    for _ in 0..size.block {
-        feasible += fill_states(setup, table, &k, &places, here);
-        let before = k.jobs;
-        k.step(&layout.counts, &setup.queue.weights, size.kinds);
-        here = place_after(here, before, k.jobs, size.jobs);
+impl<'a> Lent<'a> {
+    ghost use Rattle.filling.specs.Lending.{SameLoan};
+
+    // Stores the entries of all states with one k, whose value a function of the kind (from 0) gives; returns how many of them hold one.
+    fn store_states<F: Fn(usize) -> Option<u64>>(&mut self, index: usize, value: F) -> u64
+        requires in_table { index < block (problem self.old.setup.now.queue) }
+        requires callable { (x : ℕ) → x < self.old.setup.now.queue.kinds → F.pre value x }
+        ensures loan { SameLoan self.old self.new }
+        ensures stored { (f : ℕ → OrNone ℕ) → Answers self.old.setup.now.queue.kinds (F.post value) f → StatesStored (problem self.old.setup.now.queue) f self.old.table.now index self.new.table.now result }
+    {
+        let layout = &self.setup.layout;
+        // The loop writes to the table alone: nothing else of the loan is looked at again.
+        let table = &mut *self.table;
+        // Counts what is found, and is no index.
+        let mut feasible: u64 = 0;
+        for kind in 0..layout.size.kinds {
+            let entry = next_states::state_entry(layout, index, kind);
+            match value(kind) {
+                Some(found) => {
+                    table[entry] = found;
+                    feasible += 1;
+                }
+                None => table[entry] = next_states::NONE,
+            }
+        }
+        feasible
     }
-    feasible
+
+    // The next states' entries, kind by kind.
+    fn next_entries(&self, k: &JobsLeft) -> [u64; 5]
+        requires { LeftAt (problem self.now.setup.now.queue) k.now.left k.now.index }
+        ensures { result ≡ next_of self.now.setup.now.queue self.now.table.now k.now }
+    {
+        next_states::load_next(&self.setup.layout, self.table, k)
+    }
+
+    // Fills the entries of all states with one k; returns how many of them hold a value. Where no next state has one, no state has, and neither places nor gaps
+    // are looked at: with a small shift that is nearly every k.
+    fn fill_states(&mut self, k: &JobsLeft, places: &[u64; 65], here: u64) -> u64
+        requires { Fillable self.old.setup.now.queue self.old.table.now k.now }
+        ensures loan { SameLoan self.old self.new }
+        ensures stored { StatesStored (problem self.old.setup.now.queue) (entry_from self.old.setup.now.queue self.old.table.now k.now (in_place k.now.left self.old.setup.now.layout.kinds places.now here)) self.old.table.now k.now.index self.new.table.now result }
+    {
+        let setup = self.setup;
+        let next = self.next_entries(k);
+        if next_states::none_next(&next) {
+            if k.jobs == 0 {
+                return self.store_states(k.index, |kind| {
+                    last_value(is_permitted(setup, k, places, here, kind))
+                });
+            }
+            return self.store_states(k.index, |_| None);
+        }
+        let gaps = &setup.layout.gaps;
+        let weight = k.step_weight(setup.queue.goal);
+        self.store_states(
+            k.index,
+            |kind: usize|
+                requires ready { Ready next gaps.now.numbers (kind + 1) (factor weight) }
+                requires slot_in { (kind < 5) × ((kind_at setup.now.layout.kinds (suc kind)).slot + get_or k.now.left kind 0 < 65) }
+            {
+                let permitted = is_permitted(setup, k, places, here, kind);
+                let look = Look {
+                    next: &next,
+                    gaps,
+                    row: kind + 1,
+                    weight,
+                };
+                state_value(&look, permitted)
+            },
+        )
+    }
+
+    // Fills the table with every state's value; returns how many states are feasible.
+    pub fn fill(&mut self) -> u64
+        ensures loan { SameLoan self.old self.new }
+        ensures filled_table { FilledTable (problem self.old.setup.now.queue) self.old.table.now self.new.table.now }
+        ensures value { result ≡ feasible_states (problem self.old.setup.now.queue) }
+    {
+        let setup = self.setup;
+        let size = setup.layout.size;
+        let places = setup.place_sets();
+        let mut k = JobsLeft::none();
+        let mut here = layout::place_bit(size.jobs);
+        let mut feasible: u64 = 0;
+        for _ in 0..size.block {
+            feasible += self.fill_states(&k, &places, here);
+            let before = k.jobs;
+            k.step(setup.kinds());
+            here = place_after(here, before, k.jobs, size.jobs);
+        }
+        feasible
+    }
 }

@@ -1,14 +1,16 @@
 -- The laws of a message, said of what reading bytes gives: a verdict and a record.
 -- Assumes nothing.
-use Rattle.std.specs.Prelude.{Err}
+use Rattle.std.specs.Prelude.{Ok, Err, Result}
 use Prim.Native.Nat.{ℕ}
 use mathlib.Core.Path.{◌≡◌, refl, sym, ap, ◌∙◌}
 use mathlib.Core.Logic.{◌↔◌, ◌≢◌}
 use mathlib.Core.List.{List}
+use native.Mathlib.Omega.{arith}
 use lib.ListN.{length}
 use Rattle.refusal.specs.declared.Reason.{Reason}
 use Rattle.refusal.specs.Answers.{verdict_number, refusal_of, Verdict, Accepted}
 use Rattle.number.specs.Readers.{Found, found, refused, Reader}
+use Rattle.number.specs.Inputs.{answered}
 use Rattle.fields.specs.Lists.{Bytes}
 use Rattle.fields.proofs.Writers.{Laws}
 use Rattle.formats.proofs.Verdicts.{not_accepted}
@@ -35,6 +37,28 @@ module _ {R : Type 0} {read : Reader R} {blank : R} {verdict : List ℕ → Verd
       go : (f : Found R) → read s 0 ≡ f → read s 0 ≡ refused r
       go (found q n) h = not_accepted r (sym e ∙ (T.on_found s q n h).0)
       go (refused w) h = let same : Err w ≡ Err r = sym (T.on_refused s w h).0 ∙ e in h ∙ cc
+
+  -- what code answers of a message is what reading it gives: the record, or the refusal
+  pub accepted_answer : verdict s ≡ Accepted → answered (read s 0) ≡ Ok (record_of s)
+  accepted_answer e = ap answered (accepted_found e).1
+
+  pub refused_answer : (r : Reason) → verdict s ≡ Err r → answered (read s 0) ≡ Err r
+  refused_answer r e = ap answered (refused_found r e)
+
+  record_found : (f : Found R) → read s 0 ≡ f → (q : R) → ◌≡◌ {A = Result R Reason} (Ok q) (answered f) → (verdict s ≡ Accepted) × (record_of s ≡ q)
+  record_found (found p n) h q e = let same : p ≡ q = cc in let (a, is) = T.on_found s p n h in (a, is ∙ same)
+  record_found (refused r) h q e = let z : ◌≡◌ {A = ℕ} 0 1 = cc in absurd (omega arith)
+
+  refusal_found : (f : Found R) → read s 0 ≡ f → (r : Reason) → ◌≡◌ {A = Result R Reason} (Err r) (answered f) → verdict s ≡ Err r
+  refusal_found (found p n) h r e = let z : ◌≡◌ {A = ℕ} 0 1 = cc in absurd (omega arith)
+  refusal_found (refused w) h r e = let same : Err w ≡ Err r = cc in (T.on_refused s w h).0 ∙ same
+
+  -- .. and the other way: what code answers is what the message has
+  pub answer_accepted : (q : R) → ◌≡◌ {A = Result R Reason} (Ok q) (answered (read s 0)) → (verdict s ≡ Accepted) × (record_of s ≡ q)
+  answer_accepted = record_found (read s 0) refl
+
+  pub answer_refused : (r : Reason) → ◌≡◌ {A = Result R Reason} (Err r) (answered (read s 0)) → verdict s ≡ Err r
+  answer_refused = refusal_found (read s 0) refl
 
   -- a refused reading, by its number alone: its record is all 0
   pub refused_blank : refusal_of (verdict_number (verdict s)) ≢ 0 → record_of s ≡ blank

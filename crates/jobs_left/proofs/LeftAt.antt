@@ -6,22 +6,27 @@ use mathlib.Core.Path.{◌≡◌, refl, sym, ap, ap₂, ◌∙◌}
 use native.Mathlib.Nat.{suc-mul, mul-le-mul_left}
 use native.Mathlib.Omega.{arith}
 use lib.ListN.{length, get_or, take, drop, set, replicate, length-set}
+use Rattle.std.proofs.lemmas.List.{length-map, length-take, length-drop}
 use lib.Seq.{take-set-lt, get_or-drop, get_or-set_other}
 use Rattle.fields.proofs.Arrays.{get_d_zeros}
-use Rattle.sequencing.specs.Lists.{at}
+use Rattle.sequencing.specs.Lists.{at, weigh}
 use Rattle.sequencing.specs.Problem.{Problem}
 use Rattle.sequencing.specs.States.{complete, all_left}
-use Rattle.sequencing.specs.Entries.{size, index, digits, stride, block}
+use Rattle.sequencing.specs.Entries.{size, index, digits, stride, block, k_at}
 use Rattle.sequencing.proofs.AllJobs.{length_all}
 use Rattle.sequencing.proofs.Radix.{size_pos, digits_index, index_digits, digits_length, digits_le, index_complete, stride_pos}
 use Rattle.sequencing.proofs.Vectors.{at_take, at_in, complete_length, at_complete}
-use Rattle.jobs_left.specs.Steps.{next, LeftAt}
-use Rattle.jobs_left.proofs.Stepping.{next_digits, digits_zero}
+use Rattle.jobs_left.specs.declared.Kind.{Kind}
+use Rattle.jobs_left.specs.declared.JobsLeft.{JobsLeft}
+use Rattle.jobs_left.specs.Kinds.{counts_of, weights_of}
+use Rattle.jobs_left.specs.Steps.{next, Summed, LeftAt, LeftOf}
+use Rattle.jobs_left.proofs.Stepping.{Stepped, next_digits, digits_zero}
+use Rattle.jobs_left.proofs.Sums.{weigh_same}
 
 -- ---- strides and digits
 
 -- strides grow
-pub stride_grows : (cs : List ℕ) (y x : ℕ) → y ≤ x → x ≤ length cs → stride cs y ≤ stride cs x
+stride_grows : (cs : List ℕ) (y x : ℕ) → y ≤ x → x ≤ length cs → stride cs y ≤ stride cs x
 unfolding stride
 stride_grows cs zero x l u = omega arith
 stride_grows cs (suc y) zero l u = absurd (omega arith)
@@ -79,16 +84,6 @@ module _ {P : Problem} where
       zeros (suc j) h = get_d_zeros 5 j
 
   module _ {left : List ℕ} {i : ℕ} (w : LeftAt P left i) where
-    -- the next index
-    pub left_step : {left' : List ℕ} → suc i < block P → length left' ≡ 5 → take P.N left' ≡ next (all_left P) (take P.N left) → drop P.N left' ≡ drop P.N left
-        → LeftAt P left' (suc i)
-    left_step {left'} h long step past = record {
-      long = long;
-      here = step ∙ ap (next (all_left P)) w.here ∙ next_digits (all_left P) i;
-      past = λ j l. at_past P.N left' left past j l ∙ w.past j l;
-      within = h;
-    }
-
     pub left_at : (x : ℕ) → 1 ≤ x → x ≤ P.N → at left x ≡ at (digits (all_left P) i) x
     left_at x l u = sym (at_take P.N left x u) ∙ ap (λ k. at k x) w.here
 
@@ -117,3 +112,54 @@ module _ {P : Problem} where
           past = λ j g. at_set_past left m _ j (omega arith) ∙ w.past j g;
           within = omega (arith, w.within);
         }
+
+-- ---- a problem's kinds as the table counts them
+
+-- the kinds count and weigh as those of the problem
+pub record KindsOf (P : Problem) (kinds : List Kind) : Type 0 where
+  pub counts_are : counts_of kinds ≡ all_left P
+  pub weights_are : (j : ℕ) → 1 ≤ j → j ≤ P.N → get_or (weights_of kinds) (j - 1) 0 ≡ P.weight j
+
+module _ {P : Problem} {kinds : List Kind} (known : KindsOf P kinds) where
+  pub many_kinds : length kinds ≡ P.N
+  many_kinds = sym (length-map kinds (λ (kind : Kind). kind.count)) ∙ ap length known.counts_are ∙ length_all P
+
+  pub weigh_kinds : (k : List ℕ) → length k ≤ P.N → weigh (λ j. get_or (weights_of kinds) (j - 1) 0) k ≡ weigh P.weight k
+  weigh_kinds k h = weigh_same (λ j. get_or (weights_of kinds) (j - 1) 0) P.weight k (λ j a u. known.weights_are j a (omega arith))
+
+  weigh_here : (i : ℕ) → weigh (λ j. get_or (weights_of kinds) (j - 1) 0) (k_at P i) ≡ weigh P.weight (k_at P i)
+  weigh_here i = weigh_kinds (k_at P i) (omega (arith, digits_length (all_left P) i, length_all P))
+
+  module _ (k : JobsLeft) where
+    -- what the sums over its kinds say of what is left of the problem's jobs
+    pub summed_left : LeftAt P k.left k.index → Summed (weights_of kinds) (take (length kinds) k.left) k.jobs k.weight → LeftOf P k
+    summed_left w s =
+        let s = rw (many_kinds, w.here) at s in
+        record { left_at = w; jobs_are = s.jobs_are; weight_is = s.weight_is ∙ weigh_here k.index }
+
+    -- a step is to what is left at the next index
+    module _ (k' : JobsLeft) (w : LeftAt P k.left k.index) (s : Stepped kinds k.left k'.left) where
+      step_is : take P.N k'.left ≡ digits (all_left P) (suc k.index)
+      step_is = rw (many_kinds, known.counts_are) at s.left_after ∙ ap (next (all_left P)) w.here ∙ next_digits (all_left P) k.index
+
+      rest_is : drop P.N k'.left ≡ drop P.N k.left
+      rest_is = rw many_kinds at s.left_unchanged
+
+      long_stepped : length k'.left ≡ 5
+      long_stepped = omega (
+        arith,
+        length-take P.N k.left,
+        length-take P.N k'.left,
+        length-drop P.N k.left,
+        length-drop P.N k'.left,
+        ap length w.here,
+        ap length step_is,
+        ap length rest_is,
+        digits_length (all_left P) k.index,
+        digits_length (all_left P) (suc k.index),
+        length_all P,
+        w.long,
+      )
+
+      pub left_stepped : k'.index ≡ suc k.index → suc k.index < block P → LeftAt P k'.left k'.index
+      left_stepped e h = rw e record { long = long_stepped; here = step_is; past = λ j l. at_past P.N k'.left k.left rest_is j l ∙ w.past j l; within = h }

@@ -1,4 +1,4 @@
+pub mod Weights
 pub mod Stepping
-pub mod Fronts
 pub mod Sums
 pub mod LeftAt

@@ -2,18 +2,21 @@
 -- Assumes nothing.
 use Prim.Native.Nat.{ℕ, suc, ◌+◌, ◌-◌, ◌*◌, ◌/◌, ◌%◌, ◌≤◌, ◌<◌}
 use mathlib.Core.Path.{◌≡◌, refl, sym, ap, ap₂, ◌∙◌}
+use mathlib.Core.Bool.{cond}
 use mathlib.Core.Logic.{inl, inr}
 use mathlib.Core.List.{List, [], ◌∷◌, ◌++◌, append-nil, append_assoc}
 use native.Mathlib.Omega.{arith}
 use native.Mathlib.Nat.{mod-lt, mod-add-div, mod-eq_of_lt, div-eq_of_lt, mod_self, div_self, add-mul-div_left, add-mul-mod_self_left}
 use borrow.Author.Tests.{lt-ltb, le-ltb, ltb-true, ltb-false}
 use lib.Dec.{ltb}
-use lib.ListN.{length, get_or, take, drop, set, replicate, length-set}
-use lib.Seq.{take-add, take-suc-set, drop-set-lt}
+use lib.ListN.{length, get_or, take, drop, set, replicate, length-set, drop_of_length-le}
+use lib.Seq.{take-add, take-suc-set, drop-set-lt, drop-cons}
 use Rattle.fields.specs.Fields.{part}
 use Rattle.fields.proofs.Parts.{part_more}
 use Rattle.sequencing.specs.Entries.{digits}
 use Rattle.number.proofs.Steps.{bool_cases}
+use Rattle.jobs_left.specs.declared.Kind.{Kind}
+use Rattle.jobs_left.specs.Kinds.{no_kind, counts_of}
 use Rattle.jobs_left.specs.Steps.{next}
 
 -- ---- digits
@@ -54,11 +57,16 @@ digits_zero (c ∷ cs) =
 -- ---- the loop
 
 -- the kinds before j are at 0, and the step goes on with those from j
-pub record Stepping (counts left₀ : List ℕ) (kinds : ℕ) (left : List ℕ) (j : ℕ) : Type 0 where
-  pub few : j ≤ kinds
+pub record Stepping (kinds : List Kind) (left₀ left : List ℕ) (j : ℕ) : Type 0 where
+  pub few : j ≤ length kinds
   pub long : length left ≡ length left₀
-  pub means : next (take kinds counts) (take kinds left₀) ≡ take j left ++ next (part j (kinds - j) counts) (part j (kinds - j) left)
-  pub past : drop kinds left ≡ drop kinds left₀
+  pub means : next (counts_of kinds) (take (length kinds) left₀) ≡ take j left ++ next (counts_of (drop j kinds)) (part j (length kinds - j) left)
+  pub past : drop (length kinds) left ≡ drop (length kinds) left₀
+
+-- the step is done: what it leaves of the kinds, and past them all is as it was
+pub record Stepped (kinds : List Kind) (left₀ left : List ℕ) : Type 0 where
+  pub left_after : take (length kinds) left ≡ next (counts_of kinds) (take (length kinds) left₀)
+  pub left_unchanged : drop (length kinds) left ≡ drop (length kinds) left₀
 
 front_set : (n : ℕ) (l : List ℕ) (j a : ℕ) → j < n → j < length l → take n (set l j a) ≡ take j l ++ a ∷ part (j + 1) (n - (j + 1)) l
 front_set n l j a h r =
@@ -67,44 +75,46 @@ front_set n l j a h r =
     ap (λ m. take m (set l j a)) e ∙ take-add (suc j) (n - (j + 1)) (set l j a)
     ∙ rw (take-suc-set l j a r, drop-set-lt (suc j) l j a (omega arith), f) (append_assoc (take j l) (a ∷ []) (part (suc j) (n - suc j) l))
 
-module _ {counts left₀ : List ℕ} {kinds : ℕ} where
-  pub stepping_none : Stepping counts left₀ kinds left₀ 0
-  stepping_none = let e : kinds - 0 ≡ kinds = omega arith in record { few = omega arith; long = refl; means = rw e; past = refl }
+module _ {kinds : List Kind} {left₀ : List ℕ} where
+  pub stepping_none : Stepping kinds left₀ left₀ 0
+  stepping_none = let e : length kinds - 0 ≡ length kinds = omega arith in record { few = omega arith; long = refl; means = rw e; past = refl }
 
-  module _ {left : List ℕ} {j : ℕ} (all-counts : kinds ≤ length counts) (all_left_lem : kinds ≤ length left₀) (w : Stepping counts left₀ kinds left j) where
-    -- the first kind of those from j
-    here : (l : List ℕ) → kinds ≤ length l → j < kinds → part j (kinds - j) l ≡ get_or l j 0 ∷ part (j + 1) (kinds - (j + 1)) l
-    here l r h = let e : kinds - j - 1 ≡ kinds - (j + 1) = omega arith in part_more l j (kinds - j) (omega arith) (omega arith) ∙ rw e
-
-    pub stepping_more : j < kinds → get_or counts j 0 ≤ get_or left j 0 → Stepping counts left₀ kinds (set left j 0) (j + 1)
+  module _ {left : List ℕ} {j : ℕ} (all_left_lem : length kinds ≤ length left₀) (w : Stepping kinds left₀ left j) where
+    -- what the step leaves of kind j and those behind it
+    here : j < length kinds → next (counts_of (drop j kinds)) (part j (length kinds - j) left)
+        ≡ cond (ltb (get_or left j 0) (get_or kinds j no_kind).count) (suc (get_or left j 0) ∷ part (suc j) (length kinds - suc j) left)
+        (0 ∷ next (counts_of (drop (suc j) kinds)) (part (suc j) (length kinds - suc j) left))
     unfolding next
+    here h =
+        let e : length kinds - j - 1 ≡ length kinds - suc j = omega arith in
+        let f : j + 1 ≡ suc j = omega arith in
+        rw (drop-cons kinds j no_kind h, part_more left j (length kinds - j) (omega arith) (omega (arith, w.long)), e, f)
+
+    pub stepping_more : j < length kinds → (get_or kinds j no_kind).count ≤ get_or left j 0 → Stepping kinds left₀ (set left j 0) (j + 1)
     stepping_more h t =
-        let r : kinds ≤ length left = omega (arith, w.long) in
         let f : j + 1 ≡ suc j = omega arith in
         record {
           few = omega arith;
           long = length-set left j 0 ∙ w.long;
-          means = w.means ∙ rw (here counts all-counts h, here left r h, le-ltb (get_or left j 0) (get_or counts j 0) t, f, take-suc-set left j 0 (omega arith), drop-set-lt (suc j) left j 0 (omega arith))
-              (sym (append_assoc (take j left) (0 ∷ []) (next (part (suc j) (kinds - suc j) counts) (part (suc j) (kinds - suc j) left))));
-          past = drop-set-lt kinds left j 0 h ∙ w.past;
+          means = w.means
+              ∙ rw (here h, le-ltb (get_or left j 0) (get_or kinds j no_kind).count t, f, take-suc-set left j 0 (omega (arith, w.long)), drop-set-lt (suc j) left j 0 (omega arith))
+              (sym (append_assoc (take j left) (0 ∷ []) (next (counts_of (drop (suc j) kinds)) (part (suc j) (length kinds - suc j) left))));
+          past = drop-set-lt (length kinds) left j 0 h ∙ w.past;
         }
 
-    pub stepping_out : j < kinds → get_or left j 0 < get_or counts j 0
-        → (take kinds (set left j (get_or left j 0 + 1)) ≡ next (take kinds counts) (take kinds left₀))
-        × (drop kinds (set left j (get_or left j 0 + 1)) ≡ drop kinds left₀)
-    unfolding next
+    pub stepping_out : j < length kinds → get_or left j 0 < (get_or kinds j no_kind).count
+        → Stepped kinds left₀ (set left j (get_or left j 0 + 1))
     stepping_out h t =
-        let r : kinds ≤ length left = omega (arith, w.long) in
-        let f : get_or left j 0 + 1 ≡ suc (get_or left j 0) = omega arith in (
-          front_set kinds left j (get_or left j 0 + 1) h (omega arith) ∙ sym (w.means ∙ rw (here counts all-counts h, here left r h, lt-ltb (get_or left j 0) (get_or counts j 0) t, f)),
-          drop-set-lt kinds left j (get_or left j 0 + 1) h ∙ w.past,
-        )
+        let f : get_or left j 0 + 1 ≡ suc (get_or left j 0) = omega arith in
+        let g : j + 1 ≡ suc j = omega arith in
+        record {
+          left_after = front_set (length kinds) left j (get_or left j 0 + 1) h (omega (arith, w.long))
+              ∙ sym (w.means ∙ rw (here h, lt-ltb (get_or left j 0) (get_or kinds j no_kind).count t, f, g));
+          left_unchanged = drop-set-lt (length kinds) left j (get_or left j 0 + 1) h ∙ w.past;
+        }
 
-    pub stepping_done : kinds ≤ j → (take kinds left ≡ next (take kinds counts) (take kinds left₀)) × (drop kinds left ≡ drop kinds left₀)
+    pub stepping_done : length kinds ≤ j → Stepped kinds left₀ left
     unfolding next
     stepping_done h =
-        let e : kinds ≡ j = omega (arith, w.few) in
-        let z : kinds - j ≡ 0 = omega arith in (
-          ap (λ n. take n left) e ∙ sym (w.means ∙ rw z (append-nil (take j left))),
-          w.past,
-        )
+        let e : length kinds ≡ j = omega (arith, w.few) in
+        record { left_after = ap (λ m. take m left) e ∙ sym (w.means ∙ rw (drop_of_length-le kinds h) (append-nil (take j left))); left_unchanged = w.past }

@@ -17,7 +17,7 @@ ghost use Rattle.kippertarn.specs.Version.{version};
 
 use refusal::Reason;
 
-// The entries that the reason for 16 holds, else 0.
+// The entries that the reason for 16 holds, else 0: V of the C interface, where an `Option` would only be unwrapped.
 fn needed_entries(reason: Reason) -> u64
     ensures { result ≡ needed reason }
 {
@@ -27,7 +27,7 @@ fn needed_entries(reason: Reason) -> u64
     }
 }
 
-// R + 256 * V of a refusal.
+// R + 256 * V of a refusal. This and the next are no `From`: the number is the C interface's alone.
 fn refusal_number(reason: Reason) -> u64
     requires { refusal_number reason < 2 ^ 64 }
     ensures { result ≡ refusal_number reason }
@@ -55,7 +55,7 @@ pub extern "C" fn kippertarn_check_queue(message: &[u8]) -> u64
     answer_number(accepted)
 }
 
-// Whether a plan message is accepted, or the one refusal.
+// Whether a plan message is accepted, or the one refusal. C has no generic functions, so each message has an entry.
 #[unsafe(no_mangle)]
 pub extern "C" fn kippertarn_check_plan(message: &[u8]) -> u64
     ensures { result ≡ verdict_number (read_plan message.now).verdict }
@@ -66,16 +66,19 @@ pub extern "C" fn kippertarn_check_plan(message: &[u8]) -> u64
 
 // Plans a queue message: V is the bytes of the written plan, and for 16 the needed entries.
 #[unsafe(no_mangle)]
+#[tactic(auto, using(best_order::proofs::Answers::planning_fits))]
 pub extern "C" fn kippertarn_plan(message: &[u8], table: &mut [u64], plan: &mut [u8]) -> u64
     ensures value { result ≡ answer_number (answer_of (ending_on message.now table.old plan.old)) }
     ensures planning { Planning message.now table.old plan.old table.new plan.new (answer_of (ending_on message.now table.old plan.old)) }
 {
+    // No `From` makes 64 bits of a `usize`, here and below.
     let written = planner::plan(message, table, plan);
     answer_number(written.map(|bytes| bytes as u64))
 }
 
 // Splits a queue message over two cutters: V is the bytes of the written split plan, and for 16 the needed entries.
 #[unsafe(no_mangle)]
+#[tactic(auto, using(best_split::proofs::Answers::splitting_fits))]
 pub extern "C" fn kippertarn_split(
     message: &[u8],
     second_start: u32,
@@ -99,7 +102,8 @@ pub extern "C" fn kippertarn_table_entries(message: &[u8]) -> u64
     answer_number(sizes.map(|sizes| sizes.entries))
 }
 
-// How many states planning a queue message can keep at most: V is the largest kept count that the counts of its kinds allow.
+// How many states planning a queue message can keep at most: V is the largest kept count that the counts of its kinds allow. An entry beside the one
+// before, since V is one number.
 #[unsafe(no_mangle)]
 pub extern "C" fn kippertarn_most_kept(message: &[u8]) -> u64
     ensures value { result ≡ most_number (table_size (read_queue message.now)) }

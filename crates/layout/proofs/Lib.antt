@@ -2,9 +2,9 @@ pub mod Blocks
 pub mod Positions
 pub mod Storing
 pub mod Listing
+pub mod Strides
 pub mod ByKind
 pub mod Places
 pub mod PlaceSets
 pub mod Prepared
 pub mod AllLeft
-pub mod Strides

@@ -1,30 +1,32 @@
 -- What the steps of the preparation give, over the arrays that they read.
-use Rattle.std.specs.Prelude.{ℕ, ◌+◌, ◌-◌, min, max, cond, List, map, ◌≡◌, eqb, ltb, get_or}
+use Rattle.std.specs.Prelude.{ℕ, ◌+◌, ◌-◌, ◌≤◌, min, max, cond, List, [], ◌∷◌, ◌≡◌, eqb, ltb, length, get_or}
 use Rattle.fields.specs.Lists.{filled}
+use Rattle.queue.specs.declared.Queue.{Queue}
+use Rattle.queue.specs.declared.Window.{Window}
 use Rattle.sequencing.specs.Lists.{at, upto, filter}
-use Rattle.sequencing.specs.Problem.{Problem}
-use Rattle.sequencing.specs.States.{all_left}
-use Rattle.layout.specs.Prepared.{by_kind, begin_of}
+use Rattle.problem.specs.OfQueue.{problem}
+use Rattle.jobs_left.specs.declared.Kind.{Kind}
+use Rattle.jobs_left.specs.Kinds.{kind_at}
+use Rattle.layout.specs.Prepared.{by_kind, no_place, kind_of}
 
--- of the first `total` jobs those of a kind, by hand-in
-unfoldable pub of_kind : List ℕ → ℕ → ℕ → List ℕ
-of_kind kinds total kind = filter (λ i. eqb kind (at kinds i)) (upto total)
+-- of some jobs those of a kind, by hand-in
+unfoldable pub of_kind : List ℕ → ℕ → List ℕ
+of_kind kinds kind = filter (λ i. eqb kind (at kinds i)) (upto (length kinds))
 
--- all K_j, where each kind begins, and the jobs kind by kind
-pub record Listed (P : Problem) (counts begins jobs : List ℕ) : Type 0 where
-  pub counts_are : counts ≡ filled 5 (all_left P)
-  pub begins_are : begins ≡ filled 5 (map (begin_of P) (upto P.N))
-  pub jobs_by_kind : jobs ≡ filled 60 (by_kind P)
+-- the kinds with their entries from `from` on, each kind's `block` behind those of the kind before it
+unfoldable pub with_blocks : (block from : ℕ) → List Kind → List Kind
+with_blocks block from [] = []
+with_blocks block from (kind ∷ kinds) = record kind { block = from } ∷ with_blocks block (from + block) kinds
 
-module _ (jobs : List ℕ) (from count : ℕ) where
-  -- a kind's job just cut, with n of its `count` jobs left, which are listed from `from` on
-  abbrev pub cut_of : ℕ → ℕ
-  cut_of n = get_or jobs (from + (count - 1 - n)) 0
+-- what is known of the kinds, and the jobs kind by kind
+pub record Listed (q : Queue) (kinds : List Kind) (jobs : List ℕ) : Type 0 where
+  pub kinds_are : (L : ℕ) → 1 ≤ L → L ≤ q.kinds → kind_at kinds L ≡ kind_of q L
+  pub jobs_by_kind : jobs ≡ filled 60 (by_kind (problem q))
 
-  -- the first place permitted to it, by its kind's first place and the shift; 1 where none was cut
-  unfoldable pub earliest_of : (first shift : ℕ) → ℕ → ℕ
-  earliest_of first shift n = cond (ltb n count) (max first (cut_of n - shift)) 1
+-- the places permitted to a job, by its kind's allowed places and the shift
+abbrev pub permitted_places : (job : ℕ) → Window → (shift : ℕ) → Window
+permitted_places job window shift = record { first = max window.first (job - shift); last = min window.last (job + shift) }
 
-  -- the last, by its kind's last place and the shift; 0 where none was cut
-  unfoldable pub latest_of : (last shift : ℕ) → ℕ → ℕ
-  latest_of last shift n = cond (ltb n count) (min last (cut_of n + shift)) 0
+-- of a kind whose jobs these are, with n of them left: the places permitted to the job just cut, none where none was cut
+unfoldable pub slot_places : (jobs : List ℕ) → Window → (shift : ℕ) → ℕ → Window
+slot_places jobs window shift n = cond (ltb n (length jobs)) (permitted_places (get_or jobs (length jobs - 1 - n) 0) window shift) no_place

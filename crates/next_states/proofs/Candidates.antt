@@ -2,19 +2,22 @@
 -- Assumes nothing.
 use Prim.Native.Nat.{ℕ, zero, suc, ◌+◌, ◌-◌, ◌*◌, ◌^◌, ◌≤◌, ◌<◌}
 use mathlib.Core.Bool.{Bool, true, false, false≢true}
+use mathlib.Core.Logic.{◌≢◌}
 use mathlib.Core.List.{List}
 use mathlib.Core.Option.{Option, none, some}
 use mathlib.Core.Path.{◌≡◌, refl, sym, ap, ◌∙◌}
-use native.Mathlib.Numerals.{add-one}
 use native.Mathlib.Omega.{arith}
 use lib.Dec.{ltb, eqb}
-use lib.ListN.{length, get_or, set, length-set}
+use lib.ListN.{length, get_or, set, replicate, length-set}
 use lib.Seq.{get_or-set_same, get_or-set_other, ext_get_or}
+use Rattle.std.proofs.lemmas.List.{get_or-replicate}
 use Rattle.std.proofs.lemmas.List.Sums.{AllPass-from_list_all, list_all-from_AllPass}
 use Rattle.std.proofs.lemmas.List.Elements.{All-get_or, All-from_get_or}
 use borrow.Author.Count.{below_more}
 use borrow.Author.Tests.{lt-ltb}
-use Rattle.gaps.specs.Gaps.{gap_index, gap_at, gap_between, has_never, seconds_of}
+use Rattle.units.specs.declared.Seconds.{Seconds}
+use Rattle.gaps.specs.declared.Gap.TheVariants.{Lasting}
+use Rattle.gaps.specs.Gaps.{gap_index, gap_at, gap_between, has_never}
 use Rattle.gaps.proofs.Gaps.{never_is}
 use Rattle.gaps.proofs.Nevers.{none_never}
 use Rattle.sequencing.specs.Lists.{at}
@@ -22,10 +25,9 @@ use Rattle.sequencing.specs.Problem.{Problem}
 use Rattle.sequencing.specs.States.{complete}
 use Rattle.sequencing.specs.Least.{only, plus_gap, least}
 use Rattle.sequencing.specs.Entries.{stored, number}
-use Rattle.sequencing.proofs.Least.{least_upto}
-use Rattle.sequencing.proofs.Options.{none_some, plus_gap_none, Upto, upto_plus_gap}
-use Rattle.next_states.specs.NextStates.{loaded, next_value, per_kind, next_values, none_of, candidate, Counted, Ready, Open}
-use Rattle.next_states.proofs.Stored.{Fits, fits, loaded_none, stored_loaded, least_past}
+use Rattle.sequencing.proofs.Options.{none_some, plus_gap_none}
+use Rattle.next_states.specs.NextStates.{loaded, next_value, per_kind, next_values, none_of, candidate, Ready, Open}
+use Rattle.next_states.proofs.Stored.{Fits, fits, loaded_none, loaded_some, stored_loaded, least_past}
 
 -- ---- from a row
 
@@ -33,13 +35,18 @@ module _ {next gaps : List ℕ} {row w : ℕ} (r : Ready next gaps row w) where
   pub candidate_fits : (x : ℕ) → 1 ≤ x → x ≤ 5 → Fits (candidate next gaps row w x)
   candidate_fits x l u = fits (candidate next gaps row w x) (r.counted x l u).small
 
-  -- kind x, from 0
-  module _ (x : ℕ) where
-    pub comes_to : plus_gap w (gap_between gaps row (x + 1)) (loaded (get_or next x 0)) ≡ candidate next gaps row w (x + 1)
-    comes_to = rw add-one
-
-    pub counted_next : x < 5 → Counted (loaded (get_or next x 0)) (gap_between gaps row (x + 1)) w
-    counted_next h = rw add-one (r.counted (suc x) (omega arith) (omega arith))
+  -- where kind x has a value and a gap of s seconds, its step can be counted
+  pub counted_step : (x : ℕ) → 1 ≤ x → x ≤ 5 → {s : Seconds} → gap_between gaps row x ≡ Lasting s → get_or next (x - 1) 0 ≢ 2 ^ 64 - 1
+      → (w < 2 ^ 16) × ((s.0 < 2 ^ 16) × (w * s.0 + get_or next (x - 1) 0 < 2 ^ 64))
+  counted_step zero l u lasting full = absurd (omega arith)
+  counted_step (suc x) l u {s} lasting full =
+      let e : suc x - 1 ≡ x = omega arith in
+      let c = r.counted (suc x) l u in
+      let value : loaded (get_or next x 0) ≡ some (get_or next x 0) = loaded_some (get_or next x 0) (rw e at full) in
+      rw e (
+        c.light,
+        (c.short s (λ z. none_some (get_or next x 0) (sym z ∙ value)) lasting, omega (arith, c.small (w * s.0 + get_or next x 0) (rw (lasting, value)))),
+      )
 
 -- ---- values by kind
 
@@ -47,6 +54,7 @@ module _ {next gaps : List ℕ} {row w : ℕ} (r : Ready next gaps row w) where
 pub record Loading (v : ℕ → Option ℕ) (next : List ℕ) (x : ℕ) : Type 0 where
   pub long : length next ≡ 5
   pub done : (k : ℕ) → k < x → get_or next k 0 ≡ stored (v (suc k))
+  pub rest : (k : ℕ) → x ≤ k → k < 5 → get_or next k 0 ≡ 2 ^ 64 - 1
 
 module _ (v : ℕ → Option ℕ) where
   at_kind : (x : ℕ) → 1 ≤ x → x ≤ 5 → at (per_kind v) x ≡ stored (v x)
@@ -63,6 +71,9 @@ module _ (v : ℕ → Option ℕ) where
   unfolding per_kind
   length_kinds = refl
 
+  pub loading_start : Loading v (replicate 5 (2 ^ 64 - 1)) 0
+  loading_start = record { long = refl; done = λ k h. absurd (omega arith); rest = λ k l u. get_or-replicate 5 k (2 ^ 64 - 1) 0 u }
+
   module _ {next : List ℕ} {x : ℕ} (w : Loading v next x) where
     -- that of kind x, from 0
     pub loading_more : x < 5 → {value : ℕ} → value ≡ stored (v (suc x)) → Loading v (set next x value) (x + 1)
@@ -73,6 +84,16 @@ module _ (v : ℕ → Option ℕ) where
               below_more (λ (k : ℕ). get_or (set next x value) k 0 ≡ stored (v (suc k))) x
               (λ k l. get_or-set_other next x k value 0 (λ q. omega arith) ∙ w.done k l)
               (get_or-set_same next x value 0 (omega (arith, w.long)) ∙ e);
+          rest = λ k l u. get_or-set_other next x k value 0 (λ q. omega arith) ∙ w.rest k (omega arith) u;
+        }
+
+    -- it has none
+    pub loading_none : x < 5 → v (suc x) ≡ none → Loading v next (x + 1)
+    loading_none h e =
+        record {
+          long = w.long;
+          done = below_more (λ (k : ℕ). get_or next k 0 ≡ stored (v (suc k))) x w.done (w.rest x (omega arith) h ∙ rw e);
+          rest = λ k l u. w.rest k (omega arith) u;
         }
 
     pub loading_done : 5 ≤ x → next ≡ per_kind v
@@ -94,6 +115,10 @@ module _ (P : Problem) (table k : List ℕ) where
   pub read_next : (x : ℕ) → 0 < at k x → {e : ℕ} → e ≡ number P x (complete k x) → get_or table e 0 ≡ stored (next_value P table k x)
   read_next x left h = rw (h, lt-ltb 0 (at k x) left) (sym (stored_loaded (get_or table (number P x (complete k x)) 0)))
 
+  -- where none is left
+  pub no_next : (x : ℕ) → at k x ≡ 0 → next_value P table k x ≡ none
+  no_next x e = rw e
+
   pub length_next : length (next_values P table k) ≡ 5
   length_next = length_kinds (next_value P table k)
 
@@ -108,7 +133,8 @@ all_open next gaps row e x l u h n = none_never gaps (gap_index row x) e ((never
 -- no entry has one
 all_none : (next : List ℕ) → none_of next ≡ true → (x : ℕ) → 1 ≤ x → x ≤ length next → loaded (at next x) ≡ none
 all_none next e zero l u = absurd (omega arith)
-all_none next e (suc x) l u = rw (All-get_or (λ (v : ℕ). eqb v (2 ^ 64 - 1) ≡ true) next x 0 (omega arith) (AllPass-from_list_all (λ v. eqb v (2 ^ 64 - 1)) next e))
+all_none next e (suc x) l u =
+    rw (All-get_or (λ (v : ℕ). eqb v (2 ^ 64 - 1) ≡ true) next x 0 (omega arith) (AllPass-from_list_all (λ v. eqb v (2 ^ 64 - 1)) next e))
 
 -- so nothing follows, from any row
 pub none_least : (next gaps : List ℕ) (row w : ℕ) → length next ≡ 5 → none_of next ≡ true → least (candidate next gaps row w) 5 ≡ none
@@ -120,19 +146,11 @@ none_least next gaps row w l e =
 -- else some entry has
 pub none_of_lem : (next : List ℕ) → none_of next ≡ false → ((x : ℕ) → 1 ≤ x → x ≤ length next → loaded (at next x) ≡ none) → ⊥
 none_of_lem next e h =
-    let each : (i : ℕ) → i < length next → eqb (get_or next i 0) (2 ^ 64 - 1) ≡ true = λ i u. loaded_none (get_or next i 0) (h (suc i) (omega arith) (omega arith)) in
+    let each : (i : ℕ) → i < length next → eqb (get_or next i 0) (2 ^ 64 - 1) ≡ true =
+    λ i u. loaded_none (get_or next i 0) (h (suc i) (omega arith) (omega arith)) in
     false≢true (sym e ∙ list_all-from_AllPass (λ v. eqb v (2 ^ 64 - 1)) next (All-from_get_or (λ (v : ℕ). eqb v (2 ^ 64 - 1) ≡ true) next 0 each))
 
--- where all that have one may follow a row, something does
-module _ (next gaps : List ℕ) (row w : ℕ) (open-all : Open next gaps row) where
-  not_found : least (candidate next gaps row w) 5 ≡ none → (x : ℕ) → 1 ≤ x → x ≤ 5 → (v : Option ℕ) → loaded (at next x) ≡ v → v ≡ none
-  not_found z x l u none e = refl
-  not_found z x l u (some d) e =
-      let gap = gap_between gaps row x in
-      let here : Upto d (loaded (at next x)) = rw e (omega arith) in
-      let found = upto_plus_gap d w gap (loaded (at next x)) (open-all x l u (λ q. none_some d (sym q ∙ e))) here in
-      absurd (rw z at (least_upto (candidate next gaps row w) 5 x (w * seconds_of gap + d) l u found))
-
 -- where no kind past x has one, nothing is found for them from any row
-pub none_past : (next gaps : List ℕ) (row w x : ℕ) → ((y : ℕ) → x < y → y ≤ 5 → loaded (at next y) ≡ none) → (y : ℕ) → x < y → y ≤ 5 → candidate next gaps row w y ≡ none
+pub none_past : (next gaps : List ℕ) (row w x : ℕ) → ((y : ℕ) → x < y → y ≤ 5 → loaded (at next y) ≡ none)
+    → (y : ℕ) → x < y → y ≤ 5 → candidate next gaps row w y ≡ none
 none_past next gaps row w x past y l u = ap (plus_gap w (gap_between gaps row y)) (past y l u) ∙ plus_gap_none w (gap_between gaps row y)

@@ -1,3 +1,4 @@
+pub mod Units
 pub mod Stored
 pub mod Numbers
 pub mod Candidates

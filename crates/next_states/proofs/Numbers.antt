@@ -1,4 +1,4 @@
--- Entry numbers that run along with k: the arrays give 01's number of the state and of each next state.
+-- Entry numbers that run along with k: what is known of the kinds gives 01's number of the state and of each next state.
 -- Assumes nothing.
 use Prim.Native.Nat.{ℕ, zero, suc, ◌+◌, ◌-◌, ◌*◌, ◌^◌, ◌≤◌, ◌<◌}
 use mathlib.Core.List.{List}
@@ -18,10 +18,12 @@ use Rattle.sequencing.proofs.Radix.{index_digits, index_complete, digits_length}
 use Rattle.sequencing.proofs.Vectors.{at_in}
 use Rattle.jobs_left.specs.declared.JobsLeft.{JobsLeft}
 use Rattle.jobs_left.specs.Steps.{LeftAt}
+use Rattle.jobs_left.specs.declared.Kind.{Kind}
+use Rattle.jobs_left.specs.Kinds.{no_kind}
 use Rattle.jobs_left.proofs.LeftAt.{left_at, stride_within}
 use Rattle.layout.specs.declared.Layout.{Layout}
 use Rattle.layout.specs.declared.Setup.{Setup}
-use Rattle.layout.proofs.Prepared.{stride_at, block_at}
+use Rattle.layout.proofs.Prepared.{kind_is}
 use Rattle.problem.specs.OfQueue.{problem}
 use Rattle.next_states.specs.Numbers.{Numbers, Steppable, Running}
 
@@ -39,17 +41,19 @@ number_at P l i h = ap (λ n. l * block P + n) (index_digits (all_left P) i h)
 pub stride_below : (P : Problem) (i x y : ℕ) → i < block P → 0 < at (k_at P i) x → y ≤ x → stride (all_left P) y ≤ i
 stride_below P i x y h some l = stride_within (all_left P) i x h some y l
 
-pub number_next : (P : Problem) (i x : ℕ) → i < block P → 0 < at (k_at P i) x → number P x (complete (k_at P i) x) ≡ (x - 1) * block P + (i - stride (all_left P) x)
+pub number_next : (P : Problem) (i x : ℕ) → i < block P → 0 < at (k_at P i) x
+    → number P x (complete (k_at P i) x) ≡ (x - 1) * block P + (i - stride (all_left P) x)
 unfolding number
 number_next P i zero h some = absurd (omega arith)
 number_next P i (suc l) h some =
     let s : suc l - 1 ≡ l = omega arith in
     let cs = all_left P in
-    let less : index cs (complete (k_at P i) (suc l)) ≡ i - stride cs (suc l) = omega (arith, index_complete cs (k_at P i) (suc l) (digits_length cs i) some, index_digits cs i h) in
+    let less : index cs (complete (k_at P i) (suc l)) ≡ i - stride cs (suc l) =
+    omega (arith, index_complete cs (k_at P i) (suc l) (digits_length cs i) some, index_digits cs i h) in
     rw s (ap (λ n. l * block P + n) less)
 
 -- it is an entry of the table
-pub next_below : (P : Problem) (i x : ℕ) → i < block P → 0 < at (k_at P i) x → number P x (complete (k_at P i) x) < entries P
+next_below : (P : Problem) (i x : ℕ) → i < block P → 0 < at (k_at P i) x → number P x (complete (k_at P i) x) < entries P
 next_below P i x h some =
     let (low, high) = kind_in P i x some in
     rw (number_next P i x h some) (digits_lt {q = x - 1} {m = P.N} (omega arith) (omega arith))
@@ -62,43 +66,53 @@ left_is {P} {left} {i} w x l = elim (cases_lt P.N x) [
   | inr b ↦ left_at w x l b
 ]
 
--- a job of kind x, from 0, is left
-pub some_left : {P : Problem} {left : List ℕ} {i : ℕ} → LeftAt P left i → (x : ℕ) → get_or left x 0 ≢ 0 → 0 < at (k_at P i) (suc x)
-some_left w x n = omega (arith, left_is w (suc x) (omega arith))
-
--- ---- by the arrays
+-- ---- by what is known of the kinds
 
 module _ {P : Problem} {l : Layout} {i : ℕ} (n : Numbers P l) (in_block : i < block P) where
-  block_here : (x : ℕ) → x < P.N → get_or l.blocks x 0 ≡ x * block P
+  block_here : (x : ℕ) → x < P.N → (get_or l.kinds x no_kind).block ≡ x * block P
   block_here x h = let e : suc x - 1 ≡ x = omega arith in rw e at (n.block_is (suc x) (omega arith) h)
 
   -- (L; k), L from 0
-  pub state_number : (x : ℕ) → x < P.N → i + get_or l.blocks x 0 ≡ number P (suc x) (k_at P i)
+  pub state_number : (x : ℕ) → x < P.N → i + (get_or l.kinds x no_kind).block ≡ number P (suc x) (k_at P i)
   state_number x h = omega (arith, block_here x h, number_at P x i in_block)
 
   -- the next state by way of kind x, from 0
-  module _ (x : ℕ) (some : 0 < at (k_at P i) (suc x)) where
-    pub next_number : i - get_or l.strides x 0 + get_or l.blocks x 0 ≡ number P (suc x) (complete (k_at P i) (suc x))
-    next_number =
-        let (low, high) = kind_in P i (suc x) some in
-        omega (arith, n.stride_is (suc x) low high, n.block_is (suc x) low high, number_next P i (suc x) in_block some)
+  pub next_number : (x : ℕ) → 0 < at (k_at P i) (suc x)
+      → i - (get_or l.kinds x no_kind).stride + (get_or l.kinds x no_kind).block ≡ number P (suc x) (complete (k_at P i) (suc x))
+  next_number x some =
+      let (low, high) = kind_in P i (suc x) some in
+      let e : suc x - 1 ≡ x = omega arith in
+      omega (arith, rw e at (n.stride_is (suc x) low high), block_here x high, rw e at (number_next P i (suc x) in_block some))
 
-    pub steppable : entries P < 2 ^ 64 → Steppable l.strides l.blocks i x
-    steppable fits =
-        let (low, high) = kind_in P i (suc x) some in
-        record {
-          x_in = omega (arith, n.few);
-          lower = λ y h. omega (arith, n.stride_is (suc y) (omega arith) (omega arith), stride_below P i (suc x) (suc y) in_block some (omega arith));
-          fits = λ y h. omega (arith, block_here y (omega arith), digits_lt {q = y} {m = P.N} (omega arith) in_block);
-        }
+-- ---- where a job of kind x, from 0, is left
+
+module _ {P : Problem} {l : Layout} {k : JobsLeft} (w : Running P l k) (x : ℕ) (left : get_or k.left x 0 ≢ 0) where
+  pub some_left : 0 < at (k_at P k.index) (suc x)
+  some_left = omega (arith, left_is w.left_at (suc x) (omega arith))
+
+  -- the step to kind x may be taken
+  pub steppable : entries P < 2 ^ 64 → Steppable l.kinds k.index x
+  steppable fits =
+      let (low, high) = kind_in P k.index (suc x) some_left in
+      let n = w.numbers in
+      record {
+        x_in = omega (arith, n.few);
+        lower = λ y h.
+            omega (arith, n.stride_is (suc y) (omega arith) (omega arith), stride_below P k.index (suc x) (suc y) w.left_at.within some_left (omega arith));
+        fits = λ y h. omega (arith, n.block_is (suc y) (omega arith) (omega arith), digits_lt {q = suc y - 1} {m = P.N} (omega arith) w.left_at.within);
+      }
+
+  -- the entry of the next state is one of the table's
+  pub entry_in : {e : ℕ} → (0 < at (k_at P k.index) (suc x) → e ≡ number P (suc x) (complete (k_at P k.index) (suc x))) → e < entries P
+  entry_in is = omega (arith, is some_left, next_below P k.index (suc x) w.left_at.within some_left)
 
 -- ---- a queue's
 
 pub numbers : (s : Setup) → Numbers (problem s.queue) s.layout
 numbers s = record {
   few = s.valid.kinds.1;
-  stride_is = stride_at s.valid s.prepared;
-  block_is = block_at s.valid s.prepared;
+  stride_is = λ x low high. ap (λ (k : Kind). k.stride) (kind_is s.valid s.prepared x low high);
+  block_is = λ x low high. ap (λ (k : Kind). k.block) (kind_is s.valid s.prepared x low high);
 }
 
 pub running : (s : Setup) {k : JobsLeft} → LeftAt (problem s.queue) k.left k.index → Running (problem s.queue) s.layout k

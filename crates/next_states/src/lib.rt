@@ -1,25 +1,26 @@
 // The next states of one k: where they stand in the table, what it holds for them, and the least over them from any row.
 #![tactic(auto)]
 
-ghost use Rattle.std.specs.Prelude.{◌≡◌, true, false, cond, ◌≢◌, ℕ, suc, min, ◌+◌, ◌*◌, ◌^◌, ◌≤◌, ◌<◌, eqb, ltb, length, get_or};
+ghost use Rattle.std.specs.Prelude.{◌≡◌, true, false, cond, ◌≢◌, ℕ, suc, min, ◌+◌, ◌*◌, ◌^◌, ◌≤◌, ◌<◌, ltb, length};
 ghost use Rattle.std.proofs.Math.Option.{none};
-ghost use Rattle.units.specs.Costs.{cost_in, number_of};
+ghost use Rattle.units.specs.Costs.{number_of};
 ghost use Rattle.gaps.specs.declared.Gap.TheVariants.{Never};
-ghost use Rattle.gaps.specs.Gaps.{gap_index, gap_between};
+ghost use Rattle.gaps.specs.Gaps.{gap_between};
 ghost use Rattle.sequencing.specs.Lists.{at};
 ghost use Rattle.sequencing.specs.Problem.{Problem};
 ghost use Rattle.sequencing.specs.States.{complete};
 ghost use Rattle.sequencing.specs.Least.{plus_gap};
 ghost use Rattle.sequencing.specs.Entries.{stored, number, k_at, block, entries};
+ghost use Rattle.jobs_left.specs.Kinds.{factor, kind_at};
 ghost use Rattle.next_states.specs.Numbers.{Numbers, Steppable, Running};
-ghost use Rattle.next_states.specs.NextStates.{loaded, answer, next_value, next_values, none_of, Counted, Ready, Open, least_next};
+ghost use Rattle.next_states.specs.NextStates.{loaded, answer, next_values, none_of, cost_by, least_next, Ready, Open};
 
 use gaps::{Gap, GapTable};
 use jobs_left::{JobsLeft, StepWeight};
 use layout::Layout;
 use units::{Cost, PupilSeconds, Seconds};
 
-// An entry that holds no value.
+// An entry that holds no value: the lent table is C's, of 64-bit numbers.
 pub const NONE: u64 = 18446744073709551615;
 
 // The least cost over the kinds, and the smallest kind that reaches it.
@@ -29,59 +30,44 @@ pub struct Least {
     pub kind: usize,
 }
 
+// A look from a row (a kind, or 0 for the cold cutter): the next states' entries, kind by kind, the gaps, and 01's W.
+#[derive(Clone, Copy)]
+pub struct Look<'a> {
+    pub next: &'a [u64; 5],
+    pub gaps: &'a GapTable,
+    pub row: usize,
+    pub weight: StepWeight,
+    pub ghost ready: { Ready next.now gaps.now.numbers row (factor weight) },
+}
+
 // The value that an entry holds.
 pub fn value_of(entry: u64) -> Option<u64>
     ensures { result ≡ answer (loaded entry) }
 {
-    if entry == NONE {
-        return None;
+    (entry != NONE).then_some(entry)
+}
+
+// So much in the unit of W. `units::cost_in` goes by a goal.
+fn cost_of(weight: StepWeight, number: u64) -> Cost
+    ensures { result ≡ cost_by weight number }
+{
+    match weight {
+        StepWeight::Seconds => Cost::InSeconds(Seconds(number)),
+        StepWeight::Pupils(_) => Cost::InPupilSeconds(PupilSeconds(number)),
     }
-    Some(entry)
 }
 
 // One step's cost and what comes after it, in the goal's own unit.
 fn step_cost(weight: StepWeight, gap: Seconds, value: u64) -> Cost
-    requires { (weight.weight < 2 ^ 16) × ((gap.0 < 2 ^ 16) × (weight.weight * gap.0 + value < 2 ^ 64)) }
-    ensures { result ≡ cost_in weight.goal (weight.weight * gap.0 + value) }
+    requires { (factor weight < 2 ^ 16) × ((gap.0 < 2 ^ 16) × (factor weight * gap.0 + value < 2 ^ 64)) }
+    ensures { result ≡ cost_by weight (factor weight * gap.0 + value) }
 {
-    if weight.goal == 1 {
-        Cost::InSeconds(gap + Seconds(value))
-    } else {
-        let step = gap.weighted(weight.weight);
-        Cost::InPupilSeconds(step + PupilSeconds(value))
-    }
-}
-
-// The better of the least so far (NONE of its unit where there is none) and one kind more, the earlier where they are equal. Without a value of its next
-// state a kind changes nothing, and its gap is not looked up; nor does a kind that may not follow, which is asked only where anything is forbidden.
-fn lower<const FORBIDS: bool>(
-    best: Least,
-    value: u64,
-    gaps: &[u32; 30],
-    row: usize,
-    weight: StepWeight,
-    kind: usize,
-) -> Least
-    requires kind_in_bounds { (gap_index row kind < length gaps.now) × (FORBIDS ≡ false → loaded value ≢ none → gap_between gaps.now row kind ≢ Never) }
-    requires counted { Counted (loaded value) (gap_between gaps.now row kind) weight.weight }
-    requires cost_value { (best.cost ≡ cost_in weight.goal (number_of best.cost)) × (number_of best.cost < 2 ^ 64) }
-    ensures cost_value_2 { result.cost ≡ cost_in weight.goal (min (number_of best.cost) (stored (plus_gap weight.weight (gap_between gaps.now row kind) (loaded value)))) }
-    ensures kind_value { result.kind ≡ cond (ltb (stored (plus_gap weight.weight (gap_between gaps.now row kind) (loaded value))) (number_of best.cost)) kind best.kind }
-{
-    if value == NONE {
-        return best;
-    }
-    if FORBIDS {
-        if let Gap::Never = gaps::gap_after(gaps, row, kind) {
-            return best;
+    match weight {
+        StepWeight::Seconds => Cost::InSeconds(gap + Seconds(value)),
+        StepWeight::Pupils(pupils) => {
+            let step = gap.weighted(pupils);
+            Cost::InPupilSeconds(step + PupilSeconds(value))
         }
-    }
-    let gap = gaps::seconds_after(gaps, row, kind);
-    let cost = step_cost(weight, gap, value);
-    if cost.less(best.cost) {
-        Least { cost, kind }
-    } else {
-        best
     }
 }
 
@@ -95,41 +81,69 @@ fn none_past(next: &[u64; 5], x: usize) -> bool
     next[3] & next[4] == NONE
 }
 
-// The least over the next states after row (a kind, or 0 for the cold cutter). Five places are looked at, NONE where there is no kind: a loop of a fixed
-// length is unrolled.
-fn least_by<const FORBIDS: bool>(
-    next: &[u64; 5],
-    gaps: &[u32; 30],
-    row: usize,
-    weight: StepWeight,
-) -> Option<Least>
-    requires { Ready next.now gaps.now row weight.weight × (FORBIDS ≡ false → Open next.now gaps.now row) }
-    ensures { result ≡ least_next weight.goal next.now gaps.now row weight.weight }
-{
-    let mut best = Least {
-        cost: units::cost_in(weight.goal, NONE),
-        kind: 0,
-    };
-    for x in 0..5 {
-        if !FORBIDS && none_past(next, x) {
-            break;
+impl<'a> Look<'a> {
+    // The better of the least so far (NONE of its unit where there is none) and kind x (from 1), the earlier where they are equal. Without a value of its next
+    // state a kind changes nothing, and its gap is not looked up; nor does a kind that may not follow, which is asked only where anything is forbidden.
+    #[inline(always)]
+    fn lower<const FORBIDS: bool>(&self, best: Least, x: usize) -> Least
+        requires kind_in { (1 ≤ x) × (x ≤ 5) }
+        requires open { FORBIDS ≡ false → loaded (at self.now.next.now x) ≢ none → gap_between self.now.gaps.now.numbers self.now.row x ≢ Never }
+        requires cost_value { (best.cost ≡ cost_by self.now.weight (number_of best.cost)) × (number_of best.cost < 2 ^ 64) }
+        ensures cost_value_2 { result.cost ≡ cost_by self.now.weight (min (number_of best.cost) (stored (plus_gap (factor self.now.weight) (gap_between self.now.gaps.now.numbers self.now.row x) (loaded (at self.now.next.now x))))) }
+        ensures kind_value { result.kind ≡ cond (ltb (stored (plus_gap (factor self.now.weight) (gap_between self.now.gaps.now.numbers self.now.row x) (loaded (at self.now.next.now x)))) (number_of best.cost)) x best.kind }
+    {
+        // Compared as it is loaded: an `Option` for each entry of this loop took 1.1 to 1.4 of the time.
+        let value = self.next[x - 1];
+        if value == NONE {
+            return best;
         }
-        best = lower::<FORBIDS>(best, next[x], gaps, row, weight, x + 1);
+        let gaps = &self.gaps.numbers;
+        if FORBIDS {
+            if let Gap::Never = gaps::gap_after(gaps, self.row, x) {
+                return best;
+            }
+        }
+        let gap = gaps::seconds_after(gaps, self.row, x);
+        let cost = step_cost(self.weight, gap, value);
+        if cost.less(best.cost) {
+            Least { cost, kind: x }
+        } else {
+            best
+        }
     }
-    (best.cost.number() != NONE).then_some(best)
-}
 
-// The least over the next states that may follow row (a kind, or 0 for the cold cutter). Most queues forbid nothing, and then nothing is compared with never.
-// Within the filling loop: a call for each state made planning half as slow again.
-#[inline(always)]
-pub fn least_next(next: &[u64; 5], gaps: &GapTable, row: usize, weight: StepWeight) -> Option<Least>
-    requires { Ready next.now gaps.now.numbers row weight.weight }
-    ensures { result ≡ least_next weight.goal next.now gaps.now.numbers row weight.weight }
-{
-    if gaps.forbids {
-        return least_by::<true>(next, &gaps.numbers, row, weight);
+    // The least. Without FORBIDS no gap is compared with never, and none may be one. Five places are looked at, NONE where there is no kind: a loop of a fixed
+    // length is unrolled.
+    #[inline(always)]
+    fn least_by<const FORBIDS: bool>(&self) -> Option<Least>
+        requires { FORBIDS ≡ false → Open self.now.next.now self.now.gaps.now.numbers self.now.row }
+        ensures { result ≡ least_next self.now.next.now self.now.gaps.now.numbers self.now.row self.now.weight }
+    {
+        let mut best = Least {
+            cost: cost_of(self.weight, NONE),
+            kind: 0,
+        };
+        for x in 0..5 {
+            if !FORBIDS && none_past(self.next, x) {
+                break;
+            }
+            best = self.lower::<FORBIDS>(best, x + 1);
+        }
+        (best.cost.number() != NONE).then_some(best)
     }
-    least_by::<false>(next, &gaps.numbers, row, weight)
+
+    // The least over the next states that may follow. Most queues forbid nothing, and then nothing is compared with never.
+    // Within the filling loop: a call for each state made planning half as slow again.
+    #[tactic(auto, using(crate::proofs::Candidates::all_open))]
+    #[inline(always)]
+    pub fn least(&self) -> Option<Least>
+        ensures { result ≡ least_next self.now.next.now self.now.gaps.now.numbers self.now.row self.now.weight }
+    {
+        if self.gaps.forbids {
+            return self.least_by::<true>();
+        }
+        self.least_by::<false>()
+    }
 }
 
 // Whether no next state has a value, as where nothing is left.
@@ -140,55 +154,56 @@ pub fn none_next(next: &[u64; 5]) -> bool
 }
 
 // 01's entry of (L; k), L from 0: the running number, and L's block added.
+#[tactic(auto, using(crate::proofs::Numbers::state_number))]
 pub fn state_entry(layout: &Layout, index: usize, kind: usize) -> usize
-    requires { (kind < 5) × (index + get_or layout.now.blocks kind 0 < 2 ^ 64) }
+    requires { (kind < 5) × (index + (kind_at layout.now.kinds (suc kind)).block < 2 ^ 64) }
     ensures { (P : Problem) → Numbers P layout.now → index < block P → kind < P.N → result ≡ number P (suc kind) (k_at P index) }
 {
-    index + layout.blocks[kind]
+    index + layout.kinds[kind].block
 }
 
 // 01's entry of the next state by way of kind x (from 0): x's weight taken off the running number, and x's block added.
+#[tactic(auto, using(crate::proofs::Numbers::next_number))]
 fn next_entry(layout: &Layout, index: usize, x: usize) -> usize
-    requires { Steppable layout.now.strides layout.now.blocks index x }
+    requires { Steppable layout.now.kinds index x }
     ensures { (P : Problem) → Numbers P layout.now → index < block P → 0 < at (k_at P index) (suc x) → result ≡ number P (suc x) (complete (k_at P index) (suc x)) }
 {
-    index - layout.strides[x] + layout.blocks[x]
+    index - layout.kinds[x].stride + layout.kinds[x].block
 }
 
-// What the table holds for that state, NONE where no job of x is left.
-fn next_value(layout: &Layout, table: &[u64], k: &JobsLeft, x: usize) -> u64
-    requires { (x < 5) × ((P : Problem) × (Running P layout.now k.now × (entries P ≤ length table.now))) }
-    ensures { (P : Problem) → Running P layout.now k.now → result ≡ stored (next_value P table.now (k_at P k.now.index) (suc x)) }
-{
-    if k.left[x] == 0 {
-        return NONE;
-    }
-    table[next_entry(layout, k.index, x)]
-}
-
-// The next states' entries, kind by kind, read once for all states with one k.
+// The next states' entries, kind by kind, NONE where no job of a kind is left: read once for all states with one k.
+// That k runs along with a problem is asked here and not kept by a type, which would have to name the problem: no plainer.
 pub fn load_next(layout: &Layout, table: &[u64], k: &JobsLeft) -> [u64; 5]
     requires { (P : Problem) × (Running P layout.now k.now × (entries P ≤ length table.now)) }
     ensures { (P : Problem) → Running P layout.now k.now → result ≡ next_values P table.now (k_at P k.now.index) }
 {
     let mut next = [NONE; 5];
+    // By the kind's number, which its entry goes by too.
     for x in 0..5 {
-        next[x] = next_value(layout, table, k, x);
+        if k.left[x] != 0 {
+            next[x] = table[next_entry(layout, k.index, x)];
+        }
     }
     next
 }
 
-// The least over the next states after row, by the table.
+// The least over the next states after row, by the table. Asked of k as in `load_next`, for the same reason.
 pub fn best_next(
     layout: &Layout,
     table: &[u64],
     k: &JobsLeft,
     row: usize,
-    goal: u32,
+    weight: StepWeight,
 ) -> Option<Least>
-    requires { (P : Problem) × (Running P layout.now k.now × ((entries P ≤ length table.now) × Ready (next_values P table.now (k_at P k.now.index)) layout.now.gaps.numbers row (cond (eqb goal 1) 1 k.now.weight))) }
-    ensures { (P : Problem) → Running P layout.now k.now → result ≡ least_next goal (next_values P table.now (k_at P k.now.index)) layout.now.gaps.numbers row (cond (eqb goal 1) 1 k.now.weight) }
+    requires { (P : Problem) × (Running P layout.now k.now × ((entries P ≤ length table.now) × Ready (next_values P table.now (k_at P k.now.index)) layout.now.gaps.numbers row (factor weight))) }
+    ensures { (P : Problem) → Running P layout.now k.now → result ≡ least_next (next_values P table.now (k_at P k.now.index)) layout.now.gaps.numbers row weight }
 {
     let next = load_next(layout, table, k);
-    least_next(&next, &layout.gaps, row, k.step_weight(goal))
+    let look = Look {
+        next: &next,
+        gaps: &layout.gaps,
+        row,
+        weight,
+    };
+    look.least()
 }

@@ -28,10 +28,6 @@ placed_above : (m low d : ℕ) (f : Found ℕ) → placed m low (above d f) ≡ 
 placed_above m low d (found v k) = ap (λ (x : ℕ). found x k) (simp (mul-add, mul_assoc, add_assoc))
 placed_above m low d (refused r) = refl
 
-placed_none : (f : Found ℕ) → placed 1 0 f ≡ f
-placed_none (found v n) = ap (λ (x : ℕ). found x n) (omega arith)
-placed_none (refused r) = refl
-
 module _ (first : Bool) (i : ℕ) (s : List ℕ) where
   at_end : (g : ℕ) → 0 < g → length s ≤ i → groups_at first g i (drop i s) ≡ refused Ends
   unfolding groups_at

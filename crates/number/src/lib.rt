@@ -7,6 +7,7 @@ ghost use Rattle.number.specs.Numbers.{number, encode};
 use refusal::Reason;
 
 // A message, and the position of the byte that is read next. Each reader moves it behind what it read; behind a refusal nothing more is read.
+// The whole with a position, as `Output` too, and no slice off its front: what is read is told by the position in the whole message.
 #[derive(Clone, Copy)]
 pub struct Input<'a> {
     pub bytes: &'a [u8],
@@ -44,6 +45,7 @@ fn with_group(value: u64, low: u64, shift: u32) -> u64
 }
 
 // The byte of the lowest group of `v`, with more groups to come.
+// `as`, here and in `Output`: the number is below 256, and `TryFrom` has an error that cannot come.
 fn byte_more(v: u64) -> u8
     ensures { result ≡ v % 128 + 128 }
 {
@@ -59,6 +61,7 @@ impl<'a> Input<'a> {
         ensures { Reads (number groups) self.old self.new result }
     {
         let mut value: u64 = 0;
+        // Counts bits, and is no index.
         let mut shift: u32 = 0;
         for _ in 0..groups {
             if self.bytes.len() <= self.at {
@@ -88,6 +91,7 @@ impl<'a> Output<'a> {
         ensures { Writes (encode value) self.old self.new }
     {
         let mut rest = value;
+        // No index is counted: the value falls by seven bits.
         while 127 < rest {
             self.buffer[self.at] = byte_more(rest);
             self.at += 1;

@@ -5,8 +5,7 @@ use mathlib.Core.Path.{◌≡◌, refl, ap, ◌∙◌}
 use mathlib.Core.List.{List}
 use native.Mathlib.Omega.{arith}
 use lib.ListN.{length, get_or}
-use Rattle.fields.specs.Fields.{part}
-use Rattle.fields.proofs.Tables.{length_tabulate, tabulate_at, tabulate_same, list_part}
+use Rattle.fields.proofs.Tables.{length_tabulate, tabulate_at, tabulate_same}
 use Rattle.fields.proofs.Arrays.{array_back, filled_past}
 use Rattle.plan.specs.declared.Plan.{Plan}
 use Rattle.plan.specs.Record.{job, job_list, Same}
@@ -20,10 +19,6 @@ job_listed p place l u =
 
 pub job_list_length : (p : Plan) → length (job_list p) ≡ p.jobs
 job_list_length p = length_tabulate (job p) 1 p.jobs
-
--- where the array holds them all, the front of the array
-pub job_list_part : (p : Plan) → p.jobs ≤ length p.order → job_list p ≡ part 0 p.jobs p.order
-job_list_part p h = list_part p.order p.jobs h
 
 -- a record that holds a list of jobs holds no others
 pub held : (goal cost states t : ℕ) (js : List ℕ) → length js ≡ t → t ≤ 60 → job_list (plan_of goal cost states t js) ≡ js

@@ -56,13 +56,6 @@ module _ (gap : ℕ → ℕ → Gap) (kind : ℕ → ℕ) (start : ℕ) (o : Lis
     pub small : t ≤ k * (2 ^ 32 - 1)
     pub rest : at (finishes gap start 0 (map kind o)) place ≡ get_or (t ∷ finishes gap L t (map kind (drop k o))) (place - k) 0
 
-  pub cutting_none : (place : ℕ) → Cutting place start 0 0
-  cutting_none place = record { few = omega arith; small = omega arith; rest = from_start place }
-    where
-      from_start : (p : ℕ) → at (finishes gap start 0 (map kind o)) p ≡ get_or (0 ∷ finishes gap start 0 (map kind o)) (p - 0) 0
-      from_start zero = refl
-      from_start (suc p) = rw sub-zero
-
   module _ (place L t k : ℕ) (w : Cutting place L t k) where
     pub cutting_more : (cut : List ℕ) → cut ≡ slice_range o 0 place → length cut + 0 ≡ place → k < length cut → place ≤ length o
         → (x g t' : ℕ) → x ≡ kind (get_or cut k 0) → g ≡ seconds_of (gap L x) → g < 2 ^ 32 → t' ≡ t + g → Cutting place x t' (k + 1)

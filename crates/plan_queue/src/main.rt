@@ -3,35 +3,23 @@
 
 ghost use Rattle.std.specs.Prelude.{◌≤◌, length, IfOk};
 
-use plan::Plan;
-use queue::Queue;
-use refusal::Reason;
+use plan_lines::Planned;
 use std::io;
 use std::io::Read;
 
-// A plan's cost and 01's kept count, then a line for each place.
-fn print_plan(rt: &impl Print, queue: Queue, plan: Plan) -> io::Result<()> {
-    let cost = plan.cost;
-    let kept = plan.feasible_states;
+// A plan's cost and 01's kept count, then a line for each place. `chapter5` prints other lines, so neither program prints by the other's function.
+fn print_plan(rt: &impl Print, planned: Planned) -> io::Result<()> {
+    let cost = planned.plan.cost;
+    let kept = planned.plan.feasible_states;
     println!(rt; "cost {cost} kept {kept}")?;
-    for place in 0..plan.jobs {
-        let line = plan_lines::line_at(queue, plan, place + 1);
+    for place in 1..=planned.plan.jobs {
+        let line = planned.line_at(place);
         println!(rt; "{line}")?;
     }
     Ok(())
 }
 
-// The queue of a message and its plan, or the refusal.
-fn plan_message(message: &[u8]) -> Result<(Queue, Plan), Reason> {
-    let mut table = [0u64; 8192];
-    let mut buffer = [0u8; 77];
-    let bytes = planner::plan(message, &mut table, &mut buffer)?;
-    let plan = plan_reader::read_plan(planner::written_plan(&buffer, bytes))?;
-    let queue = queue_reader::read_queue(message)?;
-    Ok((queue, plan))
-}
-
-// Reads until `input` is full or nothing more comes; returns how many bytes came.
+// Reads until `input` is full or nothing more comes; returns how many bytes came. No index is counted, since a read says how much came: so this is no `for`.
 fn read_full(reader: &mut impl Read, input: &mut [u8]) -> io::Result<usize>
     ensures { IfOk result (λ n. n ≤ length input.new) }
 {
@@ -50,8 +38,9 @@ fn read_full(reader: &mut impl Read, input: &mut [u8]) -> io::Result<usize>
 fn main(rt: HostRuntime) -> io::Result<()> {
     let mut input = [0u8; 180];
     let n = read_full(&mut rt.reader(), &mut input)?;
-    match plan_message(&input[..n]) {
-        Ok((queue, plan)) => print_plan(&rt, queue, plan),
+    let mut table = [0u64; 8192];
+    match plan_lines::plan_message(&input[..n], &mut table) {
+        Ok(planned) => print_plan(&rt, planned),
         Err(why) => println!(rt; "refused {why}"),
     }
 }

@@ -1,32 +1,21 @@
--- A loop that tests whether each job is fresh after those at the earlier places.
+-- A list is in order where each thing is fresh at its place.
 -- Assumes nothing.
-use Prim.Native.Nat.{ℕ, ◌+◌, ◌<◌}
-use mathlib.Core.Path.{◌≡◌}
-use mathlib.Core.Bool.{true, false}
+use Prim.Native.Nat.{ℕ, ◌<◌}
+use mathlib.Core.Path.{◌≡◌, refl, sym, ◌∙◌}
+use mathlib.Core.Bool.{Bool, true, false, false≢true}
+use mathlib.Core.Logic.{inl, inr}
 use mathlib.Core.List.{List, []}
-use native.Mathlib.Numerals.{add-one}
-use lib.ListN.{length, get_or, take, drop}
-use lib.Seq.{take-suc}
+use lib.ListN.{length, get_or, take}
+use Rattle.number.proofs.Steps.{bool_cases}
 use Rattle.fields.specs.Orders.{all_in_order, followed_by}
-use Rattle.fields_writer.proofs.Writing.{next_item}
-use Rattle.plan.specs.Record.{fresh}
-use Rattle.plan.specs.Writing.{all_fresh}
+use Rattle.fields.proofs.Orders.{in_order_places}
 
--- all are fresh if those are that are left
-abbrev pub Left : ℕ → List ℕ → ℕ → Type 0
-Left t order k = all_in_order (fresh t) followed_by (take k order) (drop k order) ≡ all_fresh t order
-
-module _ (t k : ℕ) {job : ℕ} (order : List ℕ) (w : Left t order k) (h : k < length order) (is : get_or order k 0 ≡ job) where
-  pub fresh_more : fresh t (take k order) job ≡ true → Left t order (k + 1)
-  unfolding all_in_order
-  fresh_more ok =
-      let one : take (k + 1) order ≡ followed_by (take k order) job = rw (add-one k, take-suc order k 0 h, is) in
-      rw one (rw (next_item order k 0 job h is, ok) at w)
-
-  pub fresh_out : fresh t (take k order) job ≡ false → false ≡ all_fresh t order
-  unfolding all_in_order
-  fresh_out ok = rw (next_item order k 0 job h is, ok) at w
-
-pub fresh_done : (t k : ℕ) (order : List ℕ) → Left t order k → drop k order ≡ [] → true ≡ all_fresh t order
-unfolding all_in_order
-fresh_done t k order w none = rw none at w
+-- r is what `all` answered
+pub in_order_is : {A : Type 0} (ok : List A → A → Bool) (xs : List A) (d : A) (r : Bool)
+    → (r ≡ true → (i : ℕ) → i < length xs → ok (take i xs) (get_or xs i d) ≡ true)
+    → (r ≡ false → (i : ℕ) × (i < length xs) × (ok (take i xs) (get_or xs i d) ≡ false)) → r ≡ all_in_order ok followed_by [] xs
+in_order_is ok xs d true each some = sym ((in_order_places ok d xs).1 (each refl))
+in_order_is ok xs d false each some = elim (bool_cases (all_in_order ok followed_by [] xs)) [
+  | inl e ↦ let (i, h, out) = some refl in absurd (false≢true (sym out ∙ (in_order_places ok d xs).0 e i h))
+  | inr e ↦ sym e
+]

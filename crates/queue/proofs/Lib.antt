@@ -1,4 +1,3 @@
 pub mod Windows
 pub mod Same
 pub mod Examples
-pub mod Answered

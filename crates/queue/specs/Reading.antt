@@ -1,6 +1,6 @@
 -- Reading a queue message: 01's checks, one step a row of its table, in message order.
 use Rattle.refusal.specs.Answers.{Verdict, Accepted}
-use Rattle.std.specs.Prelude.{ℕ, suc, ◌+◌, List, [], ◌∷◌, map, replicate, Ok, Err}
+use Rattle.std.specs.Prelude.{ℕ, suc, ◌+◌, List, [], ◌∷◌, map, replicate, Err}
 use Rattle.std.proofs.lemmas.List.Edits.{sets}
 use Rattle.refusal.specs.declared.Reason.TheVariants.{Edition, Kinds, Goal, Shift, Start, Gap, Pupils, Places, Jobs, JobKind}
 use Rattle.number.specs.Readers.{Found, found, refused, Reader, ◌>>=◌, ◌>>◌, give, times}
@@ -10,7 +10,6 @@ use Rattle.fields.specs.Lists.{filled}
 use Rattle.gaps.specs.Gaps.{gap_row}
 use Rattle.fields.specs.Messages.{opening, end}
 use Rattle.queue.specs.declared.Queue.{Queue}
-use Rattle.queue.specs.declared.Settings.{Settings}
 use Rattle.queue.specs.declared.Window.{Window}
 use Rattle.queue.specs.Record.{no_window, rows, weight_list, windows, kind_list, window_ok}
 
@@ -25,6 +24,13 @@ window = do
 unfoldable pub placed : List ℕ → ℕ → List (List ℕ) → List ℕ
 placed gaps i [] = gaps
 placed gaps i (row ∷ rows) = placed (sets gaps (gap_row i) row) (suc i) rows
+
+-- the numbers before the gaps
+pub record Settings : Type 0 where
+  pub kinds : ℕ
+  pub goal : ℕ
+  pub max_shift : ℕ
+  pub start : ℕ
 
 -- N, goal, shift, start
 unfoldable pub settings : Reader Settings

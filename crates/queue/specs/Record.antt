@@ -17,6 +17,7 @@ no_window = record { first = 0; last = 0 }
 abbrev pub pair_of : Window → ℕ × ℕ
 pair_of w = (w.first, w.last)
 
+-- a_j b_j of each window, in order
 abbrev pub window_pairs : List Window → List (ℕ × ℕ)
 window_pairs windows = map pair_of windows
 

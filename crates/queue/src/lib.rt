@@ -2,7 +2,7 @@
 #![tactic(auto)]
 
 ghost use Rattle.std.specs.Prelude.{◌≡◌};
-ghost use Rattle.queue.specs.Record.{window_ok};
+ghost use Rattle.queue.specs.Record.{window_ok, Valid};
 
 // The places allowed to a kind: 01's a_j and b_j.
 #[derive(Clone, Copy, Debug, PartialEq, Eq)]
@@ -12,12 +12,13 @@ pub struct Window {
 }
 
 // A queue. Numbers are wider than their bounds, so that each of the writer's refusals is a condition on a record.
+// Arrays have room for the most, with N and T beside them: memory is fixed, and there is no heap.
 // Kinds, jobs and places count from 1; what stands past `kinds` and `jobs` means nothing, and is 0 in a record that was read.
 #[derive(Clone, Copy)]
 pub struct Queue {
     // 01's N.
     pub kinds: u32,
-    // 1: makespan (last finish); 2: weighted completion time (total waiting).
+    // 1: makespan (last finish); 2: weighted completion time (total waiting). A number, since refusal 6 is one of those conditions.
     pub goal: u32,
     // 01's shift m.
     pub max_shift: u32,
@@ -35,13 +36,11 @@ pub struct Queue {
     pub job_kinds: [u8; 60],
 }
 
-// The numbers before the gaps.
+// A queue within the bounds of 01's checks, as an accepted message has it.
 #[derive(Clone, Copy)]
-pub struct Settings {
-    pub kinds: u32,
-    pub goal: u32,
-    pub max_shift: u32,
-    pub start: u32,
+pub struct ValidQueue {
+    pub queue: Queue,
+    pub ghost valid: { Valid queue },
 }
 
 // Whether a kind may be allowed these places.

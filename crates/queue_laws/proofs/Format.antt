@@ -16,9 +16,8 @@ use Rattle.fields.specs.Fields.{field, within, all}
 use Rattle.fields.specs.Messages.{check}
 use Rattle.fields.proofs.Judged.{field_found}
 use Rattle.fields.proofs.RoundTrip.{number_ends}
-use Rattle.queue.specs.declared.Settings.{Settings}
 use Rattle.queue.specs.Record.{window_ok}
-use Rattle.queue.specs.Reading.{window}
+use Rattle.queue.specs.Reading.{Settings, window}
 use Rattle.queue.proofs.Windows.{good_window, window_good}
 use Rattle.formats.proofs.Verdicts.{judged_accepts}
 use Rattle.formats.proofs.Formats.{Format}

@@ -24,7 +24,7 @@ use Rattle.queue_laws.proofs.Message.{queue_refusals, queue_message}
 use Rattle.queue_laws.proofs.Cleared.{cleared_same}
 
 -- reading gives the record that was found, or the refusal with the record of zeros
-reads : Reads queue blank (λ s. (read_queue s).verdict) (λ s. (read_queue s).queue)
+pub reads : Reads queue blank (λ s. (read_queue s).verdict) (λ s. (read_queue s).queue)
 unfolding read_queue
 reads = record { on_found = λ s q n e. (rw e, rw e); on_refused = λ s r e. (rw e, rw e) }
 

@@ -5,7 +5,7 @@ use mathlib.Core.Path.{◌≡◌, refl, sym, ap, ◌∙◌}
 use mathlib.Core.List.{List, [], ◌∷◌, ◌++◌, map}
 use native.Mathlib.Omega.{arith}
 use lib.ListN.{length, take, drop, set, length-set, length-map}
-use lib.Seq.{sets, length-sets, length-take-le}
+use lib.Seq.{sets, length-sets}
 use Rattle.gaps.specs.Gaps.{gap_row}
 use Rattle.refusal.specs.declared.Reason.{Reason}
 use Rattle.refusal.specs.declared.Reason.TheVariants.{Gap}
@@ -15,8 +15,8 @@ use Rattle.fields.specs.Fields.{field, within}
 use Rattle.fields.specs.Orders.{read_before}
 use Rattle.fields.proofs.Orders.{kept, times_in_order}
 use Rattle.fields.proofs.Runs.{Listing, all_listed, in_order_lem, before_found, before_few}
-use Rattle.fields.proofs.Parts.{part_length, sets_front, sets_mid}
-use Rattle.fields.proofs.Loops.{Looping, loop_none, loop_more, loop_stop, loop_done, behind_found, behind_refused}
+use Rattle.fields.proofs.Parts.{part_length, sets_mid}
+use Rattle.fields.proofs.Loops.{Looping, loop_none, loop_more, loop_stop, loop_done, behind_found, behind_refused, front_stored}
 use Rattle.queue.specs.declared.Window.{Window}
 use Rattle.queue.specs.Reading.{held, window, placed}
 use Rattle.queue_reader.specs.Arrays.{rows_before, held_window}
@@ -37,17 +37,18 @@ rows_found n k one s i rows j e = all_listed (in_rows k one s) n tt i rows j (sy
 
 -- before gap row `row`
 pub record Rows (s : List ℕ) (at kinds : ℕ) (gaps₀ gaps : List ℕ) (i row : ℕ) : Type 0 where
-  pub long : length gaps ≡ length gaps₀
+  pub long : length gaps ≡ 30
   pub loop : Looping (in_rows kinds gap_field s) placed (kinds + 1) (times (kinds + 1) (times kinds gap_field) s at)
       (placed gaps₀ 0 (rows_before (kinds + 1) kinds gap_field s at)) tt gaps i row
 
 module _ {s : List ℕ} {at kinds : ℕ} {gaps₀ : List ℕ} where
-  pub rows_none : Rows s at kinds gaps₀ gaps₀ at 0
-  rows_none = record { long = refl; loop = loop_none (times_in_order (times kinds gap_field) (kinds + 1) s at) refl }
+  pub rows_none : length gaps₀ ≡ 30 → Rows s at kinds gaps₀ gaps₀ at 0
+  rows_none long = record { long = long; loop = loop_none (times_in_order (times kinds gap_field) (kinds + 1) s at) refl }
 
   -- a row's part of the array, and what was stored in it
   module _ {gaps : List ℕ} {i row : ℕ} (w : Rows s at kinds gaps₀ gaps i row) (from : ℕ) (begins : from ≡ gap_row row) (h : row ≤ kinds)
-      (five : kinds ≤ 5) (room : 30 ≤ length gaps₀) (new : List ℕ) (stored : let part = take (from + kinds - from) (drop from gaps) in new ≡ sets part 0 (read_before (length part) gap_field s i)) where
+      (few : kinds ≤ 5) (new : List ℕ)
+      (stored : let part = take (from + kinds - from) (drop from gaps) in new ≡ sets part 0 (read_before (length part) gap_field s i)) where
     abbrev part : List ℕ
     part = take (from + kinds - from) (drop from gaps)
 
@@ -78,6 +79,13 @@ module _ {s : List ℕ} {at kinds : ℕ} {gaps₀ : List ℕ} where
           long = ap length after_lem ∙ length-sets gaps from (read_before kinds gap_field s i) ∙ w.long;
           loop = loop_more w.loop (omega arith) vs next _ f (λ rest. ap (λ (l : List ℕ). placed l (suc row) rest) same);
         }
+
+    -- the last row
+    pub rows_last : (next : ℕ) → behind (times (length part) gap_field s i) ≡ found tt next → kinds < row + 1
+        → (behind (times (kinds + 1) (times kinds gap_field) s at) ≡ found tt next)
+        × (after ≡ placed gaps₀ 0 (rows_before (kinds + 1) kinds gap_field s at))
+    unfolding placed
+    rows_last next e last = let (ends, left) = loop_done (rows_more next e).loop (omega (arith, last)) in (sym ends, left)
 
     pub rows_stop : (r : Reason) → behind (times (length part) gap_field s i) ≡ refused r
         → (behind (times (kinds + 1) (times kinds gap_field) s at) ≡ refused r)
@@ -122,13 +130,8 @@ module _ {s : List ℕ} {at : ℕ} {out₀ : List Window} where
     windows_done h = let (ends, left) = loop_done w.loop h in (sym ends, left)
 
 -- windows that were stored in the first n places of an array
-module _ (n : ℕ) (l : List Window) (room : n ≤ length l) (s : List ℕ) (i : ℕ) where
-  pub windows_found : (j : ℕ) → behind (times (length (take n l)) window s i) ≡ found tt j → (ws : List (ℕ × ℕ)) × (times n window s i ≡ found ws j)
-  windows_found j e = behind_found (times n window s i) j (rw (← length-take-le n l room) e)
-
-  pub windows_stored : (out : List Window) → out ≡ sets (take n l) 0 (map held (read_before (length (take n l)) window s i))
-      → (ws : List (ℕ × ℕ)) (j : ℕ) → times n window s i ≡ found ws j → out ++ drop n l ≡ sets l 0 (map held ws)
-  windows_stored out e ws j f =
-      let all = read_before n window s i in
-      rw (e, length-take-le n l room) (sets_front n (map held all) l (omega (arith, before_few n window s i, length-map all held)) room)
-      ∙ ap (λ (ws : List (ℕ × ℕ)). sets l 0 (map held ws)) (before_found window s n i ws j f)
+pub windows_stored : (n : ℕ) (l out : List Window) → n ≤ length l → (s : List ℕ) (i : ℕ) → out ≡ sets (take n l) 0 (map held (read_before (length (take n l)) window s i))
+    → (ws : List (ℕ × ℕ)) (j : ℕ) → times n window s i ≡ found ws j → out ++ drop n l ≡ sets l 0 (map held ws)
+windows_stored n l out room s i e ws j f =
+    let few : length (map held (read_before n window s i)) ≤ n = omega (arith, before_few n window s i, length-map (read_before n window s i) held) in
+    front_stored n l room (λ k. map held (read_before k window s i)) few out e (map held ws) (ap (map held) (before_found window s n i ws j f))

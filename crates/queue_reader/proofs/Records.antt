@@ -5,15 +5,14 @@ use mathlib.Core.Path.{◌≡◌}
 use mathlib.Core.List.{List, map}
 use lib.ListN.{replicate}
 use lib.Seq.{sets}
-use Rattle.refusal.specs.declared.Reason.TheVariants.{Pupils, Jobs, JobKind}
+use Rattle.refusal.specs.declared.Reason.TheVariants.{Kinds, Goal, Shift, Start, Pupils, Jobs, JobKind}
 use Rattle.number.specs.Readers.{found, Reader, times}
 use Rattle.fields.specs.Fields.{field, within}
 use Rattle.fields.specs.Lists.{filled}
 use Rattle.queue.specs.declared.Queue.{Queue}
-use Rattle.queue.specs.declared.Settings.{Settings}
 use Rattle.queue.specs.declared.Window.{Window}
 use Rattle.queue.specs.Record.{no_window}
-use Rattle.queue.specs.Reading.{held, window, placed, tables, jobs}
+use Rattle.queue.specs.Reading.{held, window, placed, settings, tables, head, jobs}
 use Rattle.queue_reader.proofs.Loops.{gap_field}
 
 -- one weight, and one job's kind
@@ -23,13 +22,13 @@ weight_field = field 3 (within 0 1000) Pupils
 abbrev pub kind_field : ℕ → Reader ℕ
 kind_field n = field 3 (within 1 n) JobKind
 
-module _ (f : Settings) (gaps weights : List ℕ) (array : List Window) where
+module _ (kinds goal shift start : ℕ) (gaps weights : List ℕ) (array : List Window) where
   abbrev pub head_from : Queue
   head_from = record {
-    kinds = f.kinds;
-    goal = f.goal;
-    max_shift = f.max_shift;
-    start = f.start;
+    kinds = kinds;
+    goal = goal;
+    max_shift = shift;
+    start = start;
     gaps = gaps;
     weights = weights;
     windows = array;
@@ -37,13 +36,17 @@ module _ (f : Settings) (gaps weights : List ℕ) (array : List Window) where
     job_kinds = replicate 60 0;
   }
 
-  pub tables_read : (s : List ℕ) (at : ℕ) (rows : List (List ℕ)) (a : ℕ) → times (f.kinds + 1) (times f.kinds gap_field) s at ≡ found rows a
-      → (ws : List ℕ) (b : ℕ) → times f.kinds weight_field s a ≡ found ws b
-      → (windows : List (ℕ × ℕ)) (c : ℕ) → times f.kinds window s b ≡ found windows c
+  pub head_read : (s : List ℕ) (at a : ℕ) → field 3 (within 1 5) Kinds s at ≡ found kinds a
+      → (b : ℕ) → field 3 (within 1 2) Goal s a ≡ found goal b
+      → (c : ℕ) → field 3 (within 0 60) Shift s b ≡ found shift c
+      → (d : ℕ) → field 3 (within 0 kinds) Start s c ≡ found start d
+      → (rows : List (List ℕ)) (i : ℕ) → times (kinds + 1) (times kinds gap_field) s d ≡ found rows i
+      → (ws : List ℕ) (j : ℕ) → times kinds weight_field s i ≡ found ws j
+      → (windows : List (ℕ × ℕ)) (k : ℕ) → times kinds window s j ≡ found windows k
       → gaps ≡ placed (replicate 30 0) 0 rows → weights ≡ filled 5 ws → array ≡ sets (replicate 5 no_window) 0 (map held windows)
-      → tables f s at ≡ found head_from c
-  unfolding tables
-  tables_read s at rows a e ws b g windows c h p q u = rw (e, g, h, p, q, u)
+      → head s at ≡ found head_from k
+  unfolding head settings tables
+  head_read s at a n b g c m d t rows i e ws j f windows k h p q u = rw (n, g, m, t, e, f, h, p, q, u)
 
 module _ (q : Queue) (t : ℕ) (array : List ℕ) where
   abbrev pub with_array : Queue

@@ -1,3 +1,3 @@
 pub mod Arrays
-pub mod Judging
+pub mod Tests
 pub mod Records

@@ -7,7 +7,7 @@ ghost use Rattle.refusal.specs.Words.{word};
 
 use std::fmt;
 
-// Why a call is refused: one case for each row of 01's table of checks, in its order, 1 to 18, then what 02 adds.
+// Why a call is refused, as a `Result` carries it: one case for each row of 01's table of checks, in its order, 1 to 18, then what 02 adds.
 #[derive(Clone, Copy, Debug, PartialEq, Eq)]
 pub enum Reason {
     // 1: the first two bytes are missing or other.
@@ -52,7 +52,7 @@ pub enum Reason {
     SecondStart,
 }
 
-// The word that the program prints beside a refusal's number.
+// The word that the program prints beside a refusal's number. An enum and no `Option`: each refusal has a group, though the last one's word is empty.
 #[derive(Clone, Copy, Debug, PartialEq, Eq)]
 pub enum Group {
     Message,
@@ -71,7 +71,7 @@ pub struct Sizes {
 }
 
 impl Reason {
-    // The number of a refusal.
+    // The number of a refusal. No conversion: a refusal has a group besides.
     pub fn number(self) -> u64
         ensures { result ≡ reason_number self }
     {

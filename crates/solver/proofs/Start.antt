@@ -57,7 +57,7 @@ pub some_first : (q : Queue) {first : Least} → Some first ≡ first_choice q
     → (c : ℕ) × (plan_cost (problem q) ≡ some c) × (first ≡ record { cost = cost_in q.goal c; kind = next_kind q q.start (all_left (problem q)) })
 some_first q {first} e = go (plan_cost (problem q)) e
   where
-    go : (v : Option ℕ) → Some first ≡ least_answer q.goal (next_kind q q.start (all_left (problem q))) v
+    go : (v : Option ℕ) → Some first ≡ least_answer (cost_in q.goal) (next_kind q q.start (all_left (problem q))) v
         → (c : ℕ) × (v ≡ some c) × (first ≡ record { cost = cost_in q.goal c; kind = next_kind q q.start (all_left (problem q)) })
     go none e = cc
     go (some c) e = (c, refl, cc)
@@ -65,7 +65,7 @@ some_first q {first} e = go (plan_cost (problem q)) e
 pub no_first : (q : Queue) → None ≡ first_choice q → plan_cost (problem q) ≡ none
 no_first q e = go (plan_cost (problem q)) e
   where
-    go : (v : Option ℕ) → None ≡ least_answer q.goal (next_kind q q.start (all_left (problem q))) v → v ≡ none
+    go : (v : Option ℕ) → None ≡ least_answer (cost_in q.goal) (next_kind q q.start (all_left (problem q))) v → v ≡ none
     go none e = refl
     go (some c) e = cc
 
@@ -76,9 +76,6 @@ module _ (q : Queue) {all : JobsLeft} (of : LeftOf (problem q) all) (at_last : a
 
   here : k_at P all.index ≡ all_left P
   here = ap (k_at P) at_last ∙ last_is q
-
-  all_jobs_left : all.jobs ≡ sum (all_left P)
-  all_jobs_left = of.jobs_are ∙ ap sum here
 
   each : (j : ℕ) → 1 ≤ j → j ≤ q.kinds → at all.left j ≡ K P j
   each j a b = left_at of.left_at j a b ∙ ap (λ k. at k j) here ∙ at_all P j a b
@@ -91,14 +88,14 @@ module _ (q : Queue) {all : JobsLeft} (of : LeftOf (problem q) all) (at_last : a
 
   pub start_share : Share q all all.left first.kind
   start_share = record {
-    left_of = of;
+    left_at = of.left_at;
     within = λ j a b. (omega arith, omega (arith, each j a b));
-    takes = λ h. let some : 0 < sum (all_left P) = omega (arith, all_jobs_left) in rw here (start_takes P some-plan first.kind some (first_is some));
+    takes = λ h. let some : 0 < sum (all_left P) = rw here at h in rw here (start_takes P some-plan first.kind some (first_is some));
   }
 
   -- the order followed is the plan's
-  pub order_followed : {order : List ℕ} → Followed q all.left all.index first.kind all.jobs order → order ≡ filled 60 (plan_order P)
+  pub order_followed : {order : List ℕ} → Followed q all.left all.index first.kind order → order ≡ filled 60 (plan_order P)
   order_followed follows =
       follows
-      ∙ rw (here, all_jobs_left) (ap (λ (xs : List ℕ). filled 60 (by_hand_in_upto P all.left (all_left P) xs)) (sym (walk_by_lem P (sum (all_left P)) q.start (all_left P) first.kind first_is))
+      ∙ rw here (ap (λ (xs : List ℕ). filled 60 (by_hand_in_upto P all.left (all_left P) xs)) (sym (walk_by_lem P (sum (all_left P)) q.start (all_left P) first.kind first_is))
       ∙ ap (filled 60) (order_is P some-plan all.left each))

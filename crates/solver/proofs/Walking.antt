@@ -47,7 +47,7 @@ module _ (P : Problem) where
 
   -- and the answer by the table is its kind
   pub next_found : (goal : ℕ) (k : List ℕ) (x : ℕ) → Takes P k x → 0 < sum (complete k x)
-      → (c : ℕ) × (least_answer goal (arg_least (choice P x (complete k x)) P.N) (least (choice P x (complete k x)) P.N) ≡ Some (record { cost = cost_in goal c; kind = arg_least (choice P x (complete k x)) P.N }))
+      → (c : ℕ) × (least_answer (cost_in goal) (arg_least (choice P x (complete k x)) P.N) (least (choice P x (complete k x)) P.N) ≡ Some (record { cost = cost_in goal c; kind = arg_least (choice P x (complete k x)) P.N }))
   next_found goal k x t h = let (c, e) = found_after k x t h in (c, rw e)
 
   module _ (m : List ℕ) where

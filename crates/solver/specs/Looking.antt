@@ -1,5 +1,6 @@
 -- A look into a filled table: from a row, with any jobs left.
 use Rattle.std.specs.Prelude.{List, cond, ℕ, eqb, Option as Answer}
+use Rattle.units.specs.Costs.{cost_in}
 use Rattle.queue.specs.declared.Queue.{Queue}
 use Rattle.sequencing.specs.Lists.{sum}
 use Rattle.sequencing.specs.Least.{arg_least}
@@ -14,4 +15,4 @@ next_kind q L k = cond (eqb (sum k) 0) 0 (arg_least (choice (problem q) L k) q.k
 
 -- what is found from row L with k left: the least cost of what is left, in the goal's unit, and that kind; nothing where no order is permitted
 abbrev pub look : Queue → (L : ℕ) → (k : List ℕ) → Answer Least
-look q L k = least_answer q.goal (next_kind q L k) (cost_to_go (problem q) L k)
+look q L k = least_answer (cost_in q.goal) (next_kind q L k) (cost_to_go (problem q) L k)

@@ -2,7 +2,7 @@
 -- Assumes nothing.
 use mathlib.Core.Logic.{inl, inr}
 use mathlib.Core.Option.{Option, none, some}
-use mathlib.Core.Path.{◌≡◌, ◌∙◌}
+use mathlib.Core.Path.{◌≡◌, ap, ◌∙◌}
 use mathlib.Mathlib.Data.Bool.Basic.{dichotomy}
 use Prim.Native.Nat.{ℕ, suc, ◌+◌, ◌-◌, ◌*◌, ◌^◌, ◌≤◌, ◌<◌}
 use native.Mathlib.Omega.{arith}
@@ -19,7 +19,8 @@ use Rattle.problem.specs.OfQueue.{problem}
 use Rattle.problem.proofs.Sizes.{entries_small}
 use Rattle.jobs_left.specs.declared.JobsLeft.{JobsLeft}
 use Rattle.jobs_left.specs.Steps.{LeftOf}
-use Rattle.layout.proofs.Prepared.{block_at}
+use Rattle.jobs_left.specs.Kinds.{kind_at}
+use Rattle.layout.proofs.Prepared.{kind_is}
 use Rattle.next_states.specs.NextStates.{loaded, answer}
 use Rattle.next_states.proofs.Numbers.{number_at}
 use Rattle.filling.proofs.Tables.{entry_below}
@@ -44,11 +45,12 @@ module _ (s : Filled) {k : JobsLeft} (left : LeftOf (problem s.setup.now.queue) 
   entry_in : (row - 1) * block P + k.index < entries P
   entry_in = entry_below P row k.index some-row row_in left.left_at.within
 
-  pub row_block : (row - 1 < 5) × (k.index + get_or s.setup.now.layout.blocks (row - 1) 0 < 2 ^ 64)
+  pub row_block : (row - 1 < 5) × (k.index + (kind_at s.setup.now.layout.kinds (suc (row - 1))).block < 2 ^ 64)
   row_block =
       let v = s.setup.now.valid in
       let e : suc (row - 1) - 1 ≡ row - 1 = omega arith in
-      let is = rw e at (block_at v s.setup.now.prepared (suc (row - 1)) (omega arith) (omega arith)) in
+      let is : (kind_at s.setup.now.layout.kinds (suc (row - 1))).block ≡ (row - 1) * block P =
+      ap (λ x. x.block) (kind_is v s.setup.now.prepared (suc (row - 1)) (omega arith) (omega arith)) ∙ ap (λ n. n * block P) e in
       (omega (arith, v.kinds), omega (arith, is, entry_in, entries_small q v))
 
   module _ {entry : ℕ} (is : k.index < block P → row - 1 < q.kinds → entry ≡ number P (suc (row - 1)) (k_at P k.index)) where

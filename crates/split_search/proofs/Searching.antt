@@ -4,7 +4,7 @@ use mathlib.Core.Bool.{Bool, true, false, not, ◌&&◌, ◌||◌}
 use mathlib.Core.List.{List}
 use mathlib.Core.Logic.{◌⊎◌, inl, inr}
 use mathlib.Core.Option.{Option, none, some}
-use mathlib.Core.Path.{◌≡◌, refl, sym, ◌∙◌}
+use mathlib.Core.Path.{◌≡◌, refl, sym, ap, ◌∙◌}
 use mathlib.Mathlib.Data.Bool.Basic.{dichotomy}
 use Prim.Native.Nat.{ℕ, suc, ◌≤◌, ◌<◌}
 use native.Mathlib.Omega.{arith}
@@ -15,6 +15,7 @@ use Rattle.units.specs.declared.Cost.{Cost}
 use Rattle.units.specs.Costs.{cost_in, number_of, in_seconds}
 use Rattle.units.proofs.Costs.{number_is, one_unit}
 use Rattle.queue.specs.declared.Queue.{Queue}
+use Rattle.sequencing.specs.Lists.{sum}
 use Rattle.sequencing.specs.Problem.{Problem}
 use Rattle.sequencing.specs.States.{all_left}
 use Rattle.sequencing.specs.Entries.{digits, k_at, block}
@@ -94,7 +95,7 @@ held_done b None h = let q = b.filled.setup.now.queue in none_taken (problem q) 
 held_done b (Some r) h =
     let q = b.filled.setup.now.queue in
     let t = held_taken (problem q) (proper q b.filled.setup.now.valid) b.second r.first.index (number_of r.cost) h.held in
-    record { cost_is = t.0; in_unit = h.in_unit; counts_are = t.1; left_of = h.left_of }
+    record { cost_is = t.0; in_unit = h.in_unit; counts_are = t.1; left_at = h.left_of.left_at; jobs_are = h.left_of.jobs_are ∙ ap sum t.1 }
 
 -- ---- a turn
 

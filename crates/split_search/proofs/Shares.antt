@@ -6,9 +6,11 @@ use mathlib.Core.Option.{Option, none, some}
 use mathlib.Core.Path.{◌≡◌, refl, sym, ap, ◌∙◌}
 use Prim.Native.Nat.{ℕ, ◌-◌, ◌≤◌, ◌<◌}
 use native.Mathlib.Omega.{arith}
+use lib.ListN.{length, take}
 use borrow.Author.Tests.{ne_eqb}
 use Rattle.std.specs.Prelude.{Some}
 use Rattle.fields.specs.Lists.{filled}
+use Rattle.units.specs.declared.Cost.{Cost}
 use Rattle.units.specs.Costs.{cost_in, number_of}
 use Rattle.queue.specs.declared.Queue.{Queue}
 use Rattle.sequencing.specs.Lists.{at, sum}
@@ -27,10 +29,14 @@ use Rattle.splitting.specs.Taken.{first_order, second_order}
 use Rattle.splitting.proofs.Covered.{covered}
 use Rattle.splitting.proofs.ByIndex.{taken_looks, first_followed, second_followed}
 use Rattle.jobs_left.specs.declared.JobsLeft.{JobsLeft}
-use Rattle.jobs_left.specs.Steps.{LeftOf}
-use Rattle.jobs_left.proofs.LeftAt.{left_at}
+use Rattle.jobs_left.specs.declared.Kind.{Kind}
+use Rattle.jobs_left.specs.Kinds.{weights_of}
+use Rattle.jobs_left.specs.Steps.{Summed, LeftAt, LeftOf}
+use Rattle.jobs_left.proofs.LeftAt.{left_at, summed_left}
+use Rattle.layout.proofs.Prepared.{known}
 use Rattle.next_states.specs.declared.Least.{Least}
 use Rattle.next_states.specs.NextStates.{least_answer}
+use Rattle.filling.proofs.Counting.{kinds_of}
 use Rattle.solver.specs.Looking.{look}
 use Rattle.solver.specs.Following.{Share, Followed}
 use Rattle.solver.proofs.Walking.{some_cost, takes_next}
@@ -42,9 +48,9 @@ use Rattle.split_search.proofs.Rest.{all_at}
 
 -- ---- one cutter's share
 
-kind_is : (goal x : ℕ) (c : Option ℕ) {r : Least} → Some r ≡ least_answer goal x c → r.kind ≡ x
-kind_is goal x none e = cc
-kind_is goal x (some c) {r} e = let is : r ≡ record { cost = cost_in goal c; kind = x } = cc in ap (λ (z : Least). z.kind) is
+kind_is : (unit : ℕ → Cost) (x : ℕ) (c : Option ℕ) {r : Least} → Some r ≡ least_answer unit x c → r.kind ≡ x
+kind_is unit x none e = cc
+kind_is unit x (some c) {r} e = let is : r ≡ record { cost = unit c; kind = x } = cc in ap (λ (z : Least). z.kind) is
 
 module _ {q : Queue} {k : JobsLeft} {upto : List ℕ} {L : ℕ} (s : ShareFrom q k upto L) {r : Least} (f : Some r ≡ look q L (k_at (problem q) k.index)) where
   abbrev P : Problem
@@ -54,20 +60,19 @@ module _ {q : Queue} {k : JobsLeft} {upto : List ℕ} {L : ℕ} (s : ShareFrom q
   n = k_at P k.index
 
   next_is : 0 < sum n → r.kind ≡ arg_least (choice P L n) q.kinds
-  next_is h = kind_is q.goal _ (cost_to_go P L n) f ∙ rw (ne_eqb (sum n) 0 (λ z. omega arith))
+  next_is h = kind_is (cost_in q.goal) _ (cost_to_go P L n) f ∙ rw (ne_eqb (sum n) 0 (λ z. omega arith))
 
   pub as_share : Share q k upto r.kind
   as_share = record {
-    left_of = s.left_of;
+    left_at = s.left_of.left_at;
     within = s.within;
-    takes = λ h.
-        let some_left : 0 < sum n = omega (arith, s.left_of.jobs_are) in
+    takes = λ some_left.
         let (c, e) = some_cost (cost_to_go P L n) s.found in
         rw (next_is some_left) (takes_next P L n c (sym (cost_some_left P L n some_left) ∙ e));
   }
 
-  pub share_followed : {order : List ℕ} → Followed q upto k.index r.kind k.jobs order → order ≡ filled 60 (order_from P upto L n)
-  share_followed e = e ∙ rw s.left_of.jobs_are (ap (λ xs. filled 60 (by_hand_in_upto P upto n xs)) (sym (walk_by_lem P (sum n) L n r.kind next_is)))
+  pub share_followed : {order : List ℕ} → Followed q upto k.index r.kind order → order ≡ filled 60 (order_from P upto L n)
+  share_followed e = e ∙ ap (λ xs. filled 60 (by_hand_in_upto P upto n xs)) (sym (walk_by_lem P (sum n) L n r.kind next_is))
 
 -- ---- the split taken
 
@@ -85,36 +90,42 @@ module _ (b : Bench) {r : Split} (t : Best b.filled.setup.now.queue b.second r) 
   i = r.first.index
 
   -- no more of a kind than there are
-  few : {l : JobsLeft} → LeftOf Q l → (j : ℕ) → 1 ≤ j → j ≤ Q.N → at l.left j ≤ at b.all.left j
-  few {l} w j a u = omega (arith, left_at w.left_at j a u, (left_digits Q l.index).within j, all_at b j a u)
+  few : {left : List ℕ} {n : ℕ} → LeftAt Q left n → (j : ℕ) → 1 ≤ j → j ≤ Q.N → at left j ≤ at b.all.left j
+  few {left} {n} w j a u = omega (arith, left_at w j a u, (left_digits Q n).within j, all_at b j a u)
 
   -- both looks find something
   found : (cost_to_go Q Q.start (k_at Q i) ≢ none) × (cost_to_go Q second (k_at Q (block Q - 1 - i)) ≢ none)
   found =
-      let (x, y, f, h, _) = taken_looks Q permitted (proper b.filled.setup.now.queue b.filled.setup.now.valid) second i (number_of r.cost) t.left_of.left_at.within t.counts_are t.cost_is in
+      let (x, y, f, h, _) = taken_looks Q permitted (proper b.filled.setup.now.queue b.filled.setup.now.valid) second i (number_of r.cost) t.left_at.within t.counts_are t.cost_is in
       ((λ n. none_some x (sym n ∙ f)), (λ n. none_some y (sym n ∙ h)))
 
-  pub first_share_lem : ShareFrom b.filled.setup.now.queue r.first r.first.left Q.start
-  first_share_lem = record {
-    left_of = t.left_of;
-    within = λ j a u. (omega arith, omega (arith, few t.left_of j a u, all_at b j a u));
-    row_in = b.filled.setup.now.valid.start;
-    found = found.0;
-  }
+  -- the first cutter's counts, weighed anew
+  module _ {kinds : List Kind} (are : kinds ≡ kinds_of b.filled.setup.now.queue) {own : JobsLeft} (left_is : own.left ≡ r.first.left) (index_is : own.index ≡ i)
+      (summed : Summed (weights_of kinds) (take (length kinds) r.first.left) own.jobs own.weight) where
+    pub own_left : LeftOf Q own
+    own_left = summed_left {kinds = kinds} (rw are (known b.filled.setup.now.queue)) own (rw (left_is, index_is) t.left_at) (rw left_is summed)
+
+    pub first_share_lem : ShareFrom b.filled.setup.now.queue own r.first.left Q.start
+    first_share_lem = record {
+      left_of = own_left;
+      within = λ j a u. (rw left_is (omega arith), omega (arith, few t.left_at j a u, all_at b j a u));
+      row_in = b.filled.setup.now.valid.start;
+      found = rw index_is found.0;
+    }
 
   pub first_order_is : order_from Q r.first.left Q.start (k_at Q i) ≡ first_order Q second
   first_order_is =
       let n = k_at Q i in
       let x = arg_least (choice Q Q.start n) Q.N in
       ap (by_hand_in_upto Q r.first.left n) (walk_by_lem Q (sum n) Q.start n x (λ _. refl))
-      ∙ first_followed Q permitted (proper b.filled.setup.now.queue b.filled.setup.now.valid) second i (number_of r.cost) t.left_of.left_at.within t.counts_are t.cost_is
-      r.first.left (left_at t.left_of.left_at) x (λ _. refl)
+      ∙ first_followed Q permitted (proper b.filled.setup.now.queue b.filled.setup.now.valid) second i (number_of r.cost) t.left_at.within t.counts_are t.cost_is
+      r.first.left (left_at t.left_at) x (λ _. refl)
 
   module _ (rest : JobsLeft) (w : LeftOf Q rest) (mirrored : rest.index ≡ block Q - 1 - i) where
     pub second_share_lem : ShareFrom b.filled.setup.now.queue rest b.all.left second
     second_share_lem = record {
       left_of = w;
-      within = λ j a u. (few w j a u, omega (arith, all_at b j a u));
+      within = λ j a u. (few w.left_at j a u, omega (arith, all_at b j a u));
       row_in = b.second_in;
       found = rw mirrored found.1;
     }
@@ -125,5 +136,5 @@ module _ (b : Bench) {r : Split} (t : Best b.filled.setup.now.queue b.second r) 
         let x = arg_least (choice Q second n) Q.N in
         rw mirrored
         (ap (by_hand_in_upto Q b.all.left n) (walk_by_lem Q (sum n) second n x (λ _. refl))
-        ∙ second_followed Q permitted (proper b.filled.setup.now.queue b.filled.setup.now.valid) second i (number_of r.cost) t.left_of.left_at.within t.counts_are t.cost_is
+        ∙ second_followed Q permitted (proper b.filled.setup.now.queue b.filled.setup.now.valid) second i (number_of r.cost) t.left_at.within t.counts_are t.cost_is
         b.all.left (all_at b) x (λ _. refl))

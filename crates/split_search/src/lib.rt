@@ -34,8 +34,8 @@ pub struct Orders {
 
 // What is the same for all splits of a queue: its filled table, all its jobs, and the second cutter's start kind.
 #[derive(Clone, Copy)]
-pub struct Bench<'a> {
-    pub filled: Filled<'a>,
+pub struct Bench<'s, 't> {
+    pub filled: Filled<'s, 't>,
     pub all: JobsLeft,
     pub second: usize,
     pub ghost covered: { covers filled.setup.now.queue ≡ true },
@@ -45,6 +45,7 @@ pub struct Bench<'a> {
 }
 
 // What the jobs left cost after a row (a kind, or 0 for the cold cutter): the row's own entry where it holds a value, else by a look.
+// What is asked of k is said in a clause, as in solver's look.
 fn cost_after(solved: &Filled, k: &JobsLeft, row: usize) -> Option<Cost>
     requires { LeftOf (problem solved.now.setup.now.queue) k.now × (row ≤ solved.now.setup.now.queue.kinds) }
     ensures { result ≡ cost_answer solved.now.setup.now.queue.goal (cost_to_go (problem solved.now.setup.now.queue) row (k_at (problem solved.now.setup.now.queue) k.now.index)) }
@@ -75,10 +76,7 @@ fn is_better(held: &Option<Split>, cost: Cost, counts: &[u32; 5]) -> bool
     let Some(split) = held else {
         return true;
     };
-    if cost.less(split.cost) {
-        return true;
-    }
-    !split.cost.less(cost) && is_before(counts, &split.first.left)
+    cost.less(split.cost) || !split.cost.less(cost) && is_before(counts, &split.first.left)
 }
 
 // The order from a row of what is left, each kind up to a job of its own.
@@ -90,8 +88,8 @@ fn share_order(solved: &Filled, k: &JobsLeft, upto: &[u32; 5], row: usize) -> [u
     solved.follow(k, upto, first.kind)
 }
 
-impl<'a> Bench<'a> {
-    pub fn new(filled: Filled<'a>, second: usize) -> Bench<'a>
+impl<'s, 't> Bench<'s, 't> {
+    pub fn new(filled: Filled<'s, 't>, second: usize) -> Bench<'s, 't>
         requires { Is (covers filled.setup.now.queue) × (second ≤ filled.setup.now.queue.kinds) }
         ensures setup_value { result.filled.setup.now ≡ filled.entry.setup.now }
         ensures table_value { result.filled.table.now ≡ filled.entry.table.now }
@@ -105,12 +103,13 @@ impl<'a> Bench<'a> {
     }
 
     // What the split costs whose counts are these: the first cutter's jobs after its start, the others after the second's. Where the first cutter costs more
-    // than the split held alone, the others are not looked up.
+    // than the split held alone, the others are not looked up. What is asked of k is said in a clause, as in solver's look.
     fn split_cost(&self, k: &JobsLeft, held: &Option<Split>) -> Option<Cost>
         requires left_of { LeftOf (problem self.now.filled.setup.now.queue) k.now }
         requires in_unit { IfSome held.now (λ r. r.cost ≡ cost_in self.now.filled.setup.now.queue.goal (number_of r.cost)) }
         ensures { result ≡ cost_answer self.now.filled.setup.now.queue.goal (cost_upto (problem self.now.filled.setup.now.queue) self.now.second held.now k.now.index) }
     {
+        // No `From` makes a `usize` of 32 bits, here and below.
         let start = self.filled.setup.queue.start as usize;
         let cost = cost_after(&self.filled, k, start)?;
         if let Some(split) = held {
@@ -128,29 +127,31 @@ impl<'a> Bench<'a> {
         ensures { IsBest self.now.filled.setup.now.queue self.now.second result }
     {
         let setup = self.filled.setup;
-        let size = setup.layout.size;
         let mut best: Option<Split> = None;
         let mut k = JobsLeft::none();
-        for _ in 0..size.block {
+        for _ in 0..setup.layout.size.block {
             if let Some(cost) = self.split_cost(&k, &best) {
                 if is_better(&best, cost, &k.left) {
                     best = Some(Split { cost, first: k });
                 }
             }
-            k.step(&setup.layout.counts, &setup.queue.weights, size.kinds);
+            k.step(setup.kinds());
         }
         best
     }
 
-    // Both cutters' orders of the split taken.
+    // Both cutters' orders of the split taken, whose counts are weighed anew.
     pub fn split_orders(&self, split: &Split) -> Orders
         requires { Best self.now.filled.setup.now.queue self.now.second split.now }
         ensures first_value { result.first ≡ filled 60 (first_order (problem self.now.filled.setup.now.queue) self.now.second) }
         ensures second_value { result.second ≡ filled 60 (second_order (problem self.now.filled.setup.now.queue) self.now.second) }
     {
-        let start = self.filled.setup.queue.start as usize;
-        let rest = self.all.without(&split.first);
-        let first = share_order(&self.filled, &split.first, &split.first.left, start);
+        let setup = self.filled.setup;
+        let start = setup.queue.start as usize;
+        let counts = split.first.left;
+        let own = JobsLeft::new(counts, split.first.index, setup.kinds());
+        let rest = self.all.without(&own);
+        let first = share_order(&self.filled, &own, &counts, start);
         let other = share_order(&self.filled, &rest, &self.all.left, self.second);
         Orders {
             first,

@@ -1,10 +1,14 @@
--- What is written of a cutter, with its jobs as the front of their array.
-use Rattle.std.proofs.Common.{◌≡◌, ◌≤◌, length, take}
-use Rattle.std.proofs.Math.Seq.{length-take-le}
-use Rattle.fields_writer.specs.Pieces.{counted_bytes}
-use Rattle.split_plan.specs.declared.Cutter.{Cutter}
-use Rattle.split_plan.specs.Writing.{cutter_bytes}
-use Rattle.split_plan.proofs.Cutters.{job_list_part}
+-- What is written of a split plan.
+-- Assumes nothing.
+use mathlib.Core.Path.{◌≡◌}
+use mathlib.Core.List.{[], ◌∷◌, ◌++◌}
+use Rattle.fields_writer.specs.Pieces.{front_bytes, counted_bytes}
+use Rattle.split_plan.specs.declared.SplitPlan.{SplitPlan}
+use Rattle.split_plan.specs.Record.{job_list}
+use Rattle.split_plan.specs.Writing.{message}
+use Rattle.split_plan.proofs.Cutters.{job_list_length}
 
-pub cutter_written : (c : Cutter) → c.jobs ≤ length c.order → cutter_bytes c ≡ counted_bytes (take c.jobs c.order)
-cutter_written c few = rw (job_list_part c few, length-take-le c.jobs c.order few)
+pub message_written : (p : SplitPlan)
+    → message p ≡ front_bytes (0x51 ∷ 0x32 ∷ []) p.goal p.cost ++ counted_bytes (job_list p.first) ++ counted_bytes (job_list p.second)
+unfolding message front_bytes counted_bytes
+message_written p = rw (job_list_length p.first, job_list_length p.second)

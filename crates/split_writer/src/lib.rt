@@ -3,31 +3,37 @@
 
 ghost use Rattle.std.specs.Prelude.{◌≡◌, ◌≤◌, length};
 ghost use Rattle.std.proofs.lemmas.List.Edits.{sets};
-ghost use Rattle.number.specs.Outputs.{HasRoom, Writes};
-ghost use Rattle.split_plan.specs.Writing.{cutter_bytes, message};
+ghost use Rattle.split_plan.specs.Writing.{message};
 
+use fields_writer::Message;
 use number::Output;
-use split_plan::{Cutter, SplitPlan};
+use split_plan::SplitPlan;
 
-// Writes a cutter's count and jobs.
-#[tactic(auto, using(crate::proofs::Records::cutter_written))]
-fn write_cutter(out: &mut Output, cutter: &Cutter)
-    requires { (cutter.now.jobs ≤ 60) × HasRoom (cutter_bytes cutter.now) out.old }
-    ensures { Writes (cutter_bytes cutter.now) out.old out.new }
-{
-    fields_writer::write_counted(out, &cutter.order[..cutter.jobs as usize]);
+// A split plan's message.
+struct SplitMessage;
+
+impl Message for SplitMessage {
+    type Record = SplitPlan;
+
+    ghost bytes = { message };
+
+    ghost can_write = { λ p. (p.first.jobs ≤ 60) × (p.second.jobs ≤ 60) };
+
+    #[tactic(auto, using(fields_writer::proofs::Writing::writing, crate::proofs::Records::message_written))]
+    fn write(out: &mut Output, plan: &SplitPlan) {
+        let first = fields_writer::listed(&plan.first.order, plan.first.jobs);
+        let second = fields_writer::listed(&plan.second.order, plan.second.jobs);
+        fields_writer::write_front(out, b"Q2", plan.goal, plan.cost);
+        fields_writer::write_counted(out, first);
+        fields_writer::write_counted(out, second);
+    }
 }
 
 // Writes the message of a record into a buffer that holds it; returns the number of its bytes.
-#[tactic(auto, using(fields_writer::proofs::Writing::writing), unfolding(split_plan::specs::Writing::message))]
 pub fn write_split(buffer: &mut [u8], plan: SplitPlan) -> usize
     requires { (plan.first.jobs ≤ 60) × (plan.second.jobs ≤ 60) × (length (message plan) ≤ length buffer.old) }
     ensures value { result ≡ length (message plan) }
     ensures buffer_after { buffer.new ≡ sets buffer.old 0 (message plan) }
 {
-    let mut out = Output { buffer, at: 0 };
-    fields_writer::write_front(&mut out, b"Q2", plan.goal, plan.cost);
-    write_cutter(&mut out, &plan.first);
-    write_cutter(&mut out, &plan.second);
-    out.at
+    fields_writer::write_message::<SplitMessage>(buffer, &plan)
 }

@@ -13,7 +13,6 @@ use Rattle.queue.specs.declared.Queue.{Queue}
 use Rattle.queue.specs.Record.{Valid}
 use Rattle.split_plan.specs.declared.SplitPlan.{SplitPlan}
 use Rattle.split_plan.specs.Writing.{message}
-use Rattle.sequencing.specs.Lists.{sum}
 use Rattle.sequencing.specs.Problem.{Problem}
 use Rattle.sequencing.specs.Entries.{FilledTable}
 use Rattle.problem.specs.OfQueue.{problem}
@@ -41,7 +40,7 @@ module _ {q : Queue} (v : Valid q) {second : ℕ} (second_in : second ≤ q.kind
   module _ {r : Split} (best : Best q second r) where
     -- as many jobs as each cutter's order has
     first_jobs : r.first.jobs ≡ length (first_order P second)
-    first_jobs = best.left_of.jobs_are ∙ ap sum best.counts_are ∙ sym (first_long P (proper q v) second (number_of r.cost) best.cost_is)
+    first_jobs = best.jobs_are ∙ sym (first_long P (proper q v) second (number_of r.cost) best.cost_is)
 
     all_jobs : length (first_order P second) + length (second_order P second) ≡ q.jobs
     all_jobs = sym (length-append (first_order P second) (second_order P second))

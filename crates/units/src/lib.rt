@@ -14,7 +14,7 @@ pub struct Seconds(pub u64);
 #[derive(Clone, Copy, Debug, PartialEq, Eq, PartialOrd, Ord)]
 pub struct PupilSeconds(pub u64);
 
-// A cost in its goal's own unit.
+// A cost in its goal's own unit: one of two, which never meet in a comparison, so it has no `Ord`.
 #[derive(Clone, Copy)]
 pub enum Cost {
     InSeconds(Seconds),
@@ -31,6 +31,7 @@ impl Seconds {
     }
 }
 
+// Each unit has its own sum, since the two never meet; no macro may write an impl.
 impl Add for Seconds {
     type Output = Seconds;
 
@@ -91,7 +92,7 @@ impl Cost {
     }
 }
 
-// So many of the goal's own unit.
+// So many of the goal's own unit. Any number may be asked for as the goal: a narrower type would ask more of callers.
 pub fn cost_in(goal: u32, number: u64) -> Cost
     ensures { result ≡ cost_in goal number }
 {

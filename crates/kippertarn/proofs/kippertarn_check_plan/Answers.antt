@@ -1,15 +1,11 @@
--- The reader's answer as a number; no refusal of a plan message carries anything, so that it fits.
-use Rattle.std.proofs.Common.{rules, ◌≡◌, ap, ◌∙◌}
+-- The number of the reader's answer.
+use Rattle.std.proofs.Common.{rules, ◌∙◌}
 use Rattle.refusal.specs.Answers.{answer_number}
-use Rattle.kippertarn.proofs.Numbers.{checked, plan_checked, plan_number}
+use Rattle.kippertarn.proofs.Numbers.{plan_number}
 use Rattle.kippertarn.proofs.kippertarn_check_plan.Goals as goal
 
 pub answer_number-requires : goal.answer_number-requires
-answer_number-requires c =
-    let same : answer_number c.map-accepted.result ≡ checked c.read_plan.result = search rules in
-    rw (same, c.read_plan.ensures, plan_checked c.args.message.now) (plan_number _)
+answer_number-requires c = (plan_number _ (answer_number c.map-accepted.result) c.read_plan.ensures (search rules)).0
 
 pub returns : goal.returns
-returns c =
-    let same : answer_number c.map-accepted.result ≡ checked c.read_plan.result = search rules in
-    c.answer_number.ensures ∙ same ∙ ap checked c.read_plan.ensures ∙ plan_checked _
+returns c = c.answer_number.ensures ∙ (plan_number _ (answer_number c.map-accepted.result) c.read_plan.ensures (search rules)).1

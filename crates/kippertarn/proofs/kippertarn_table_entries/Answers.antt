@@ -1,10 +1,8 @@
--- The entries of a table's size fit as a number.
-use Rattle.std.proofs.Common.{rules, refl, ◌≡◌}
-use Rattle.refusal.specs.Answers.{answer_number, entries_number}
-use Rattle.table_size.proofs.Sizing.{size_fits}
+-- Either number of a table's size fits.
+use Rattle.std.proofs.Common.{rules}
+use Rattle.refusal.specs.Answers.{answer_number}
+use Rattle.kippertarn.proofs.Numbers.{size_number}
 use Rattle.kippertarn.proofs.kippertarn_table_entries.Goals as goal
 
 pub answer_number-requires : goal.answer_number-requires
-answer_number-requires c =
-    let same : answer_number c.map.result ≡ entries_number c.size_table-sizes.result = search rules in
-    rw (same, c.size_table-sizes.ensures.answer_is) (size_fits _ _ refl).0
+answer_number-requires c = size_number _ (answer_number c.map.result) c.size_table-sizes.ensures.answer_is (search rules)

@@ -1,33 +1,25 @@
 -- `Counting` goes on with each kind, and at the end says what is listed.
-use Rattle.std.proofs.Common.{arith}
-use Rattle.layout.proofs.ByKind.{counting_none, counting_fits, counting_more, counting_done}
+use Rattle.std.proofs.Common.{◌≡◌, length-take, arith}
+use Rattle.jobs_left.specs.declared.Kind.{Kind}
+use Rattle.layout.proofs.ByKind.{counting_none, counting_more, counting_done, front_known}
 use Rattle.layout.proofs.list_jobs.Goals as goal
 
-pub loop-kind-init : goal.loop-kind-init
-loop-kind-init c = counting_none
+pub loop-j-init : goal.loop-j-init
+loop-j-init c = counting_none
 
-pub list_kind-end-requires : goal.list_kind-end-requires
-list_kind-end-requires c =
-    let v = c.requires in
-    let fits = counting_fits c.args.queue.now c.loop-kind.invariant v c.loop-kind-test.true in
-    (omega arith, v.jobs, omega arith)
+pub loop-j-preserved : goal.loop-j-preserved
+loop-j-preserved c =
+    let listed = c.list_kind-count.ensures in
+    counting_more c.args.queue.now.valid c.loop-j.invariant (omega (arith, length-take {A = Kind})) listed.value (omega arith) listed.jobs_after
 
-pub overflow_cast-begins : goal.overflow_cast-begins
-overflow_cast-begins c = omega (arith, counting_fits c.args.queue.now c.loop-kind.invariant c.requires c.loop-kind-test.true)
+pub returns-clause-value : goal.returns-clause-value
+returns-clause-value c = (counting_done c.args.queue.now.valid c.loop-j.invariant (omega arith)).0
 
-pub overflow_cast-counts : goal.overflow_cast-counts
-overflow_cast-counts c = omega (arith, counting_fits c.args.queue.now c.loop-kind.invariant c.requires c.loop-kind-test.true)
-
-pub loop-kind-preserved : goal.loop-kind-preserved
-loop-kind-preserved c =
-    let called = c.list_kind-end.ensures in
-    counting_more c.loop-kind.invariant c.loop-kind-test.true _ _ called.value called.jobs_after
-
-pub returns-clause-counts_after : goal.returns-clause-counts_after
-returns-clause-counts_after c = (counting_done c.args.queue.now c.loop-kind.invariant c.loop-kind-test.false).0
+pub returns-clause-kinds_after : goal.returns-clause-kinds_after
+returns-clause-kinds_after c =
+    let q = c.args.queue.now in
+    let all : c.loop-j.j ≡ q.queue.kinds = omega arith in
+    front_known q.valid c.args.kinds.now (omega arith) (rw all at c.loop-j.invariant.kinds_are)
 
 pub returns-clause-jobs_after : goal.returns-clause-jobs_after
-returns-clause-jobs_after c = (counting_done c.args.queue.now c.loop-kind.invariant c.loop-kind-test.false).1.0
-
-pub returns-clause-begins_after : goal.returns-clause-begins_after
-returns-clause-begins_after c = (counting_done c.args.queue.now c.loop-kind.invariant c.loop-kind-test.false).1.1
+returns-clause-jobs_after c = (counting_done c.args.queue.now.valid c.loop-j.invariant (omega arith)).1

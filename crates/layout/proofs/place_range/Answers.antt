@@ -5,7 +5,7 @@ use Rattle.layout.proofs.PlaceSets.{range_none}
 use Rattle.layout.proofs.place_range.Goals as goal
 
 pub returns-then-last-first : goal.returns-then-last-first
-returns-then-last-first c = sym (range_none c.args.first c.args.last c.if-last-first.true)
+returns-then-last-first c = sym (range_none c.args.places.first c.args.places.last c.if-last-first.true)
 
 pub overflow_sub-result : goal.overflow_sub-result
-overflow_sub-result c = omega (arith, c.place_bit.ensures, c.place_bit-2.ensures, pow_mono {i = c.args.first} {j = c.args.last + 1} (omega arith))
+overflow_sub-result c = omega (arith, c.place_bit.ensures, c.place_bit-2.ensures, pow_mono {i = c.from-2.result} {j = c.from.result + 1} (omega arith))

@@ -2,5 +2,5 @@
 use Rattle.layout.proofs.Strides.{Spacing}
 use Rattle.layout.proofs.set_blocks.Given as goal
 
-abbrev pub invariant-loop-j : goal.invariant-loop-j
-invariant-loop-j l = Spacing l.block l.kinds l.fn.blocks l.blocks l.at l.j
+abbrev pub invariant-loop-kind : goal.invariant-loop-kind
+invariant-loop-kind l = Spacing l.block l.fn.kinds l.kinds l.at l.kind-index

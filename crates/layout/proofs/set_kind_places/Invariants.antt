@@ -1,7 +1,7 @@
--- `Placing` is what the loop keeps.
-use Rattle.layout.proofs.Places.{Placing}
+-- The slots of the jobs passed are set.
+use Rattle.std.proofs.Common.{◌≡◌, length}
+use Rattle.layout.proofs.Places.{placed}
 use Rattle.layout.proofs.set_kind_places.Given as goal
 
 abbrev pub invariant-loop-n : goal.invariant-loop-n
-invariant-loop-n l =
-    Placing l.jobs l.from l.count l.slot l.window.first l.window.last l.max_shift l.fn.earliest l.fn.latest l.earliest l.latest l.n
+invariant-loop-n l = l.places ≡ placed l.jobs l.window l.max_shift l.fn.places (length l.yielded)

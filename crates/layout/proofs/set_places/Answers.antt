@@ -1,27 +1,20 @@
--- `Slotting` goes on with each kind, whose jobs and slots have room.
-use Rattle.std.proofs.Common.{arith}
-use Rattle.layout.proofs.Places.{next_kind, slotting_none, slotting_more, slotting_done}
+-- Each kind's jobs and slots have room, and its slots are set behind those of the kinds before it.
+use Rattle.std.proofs.Common.{◌≡◌, refl, ap, ◌∙◌, length-take, arith}
+use Rattle.layout.specs.Prepared.{by_slot}
+use Rattle.layout.proofs.Places.{slots_of, slots_none, next_kind, slots_more}
 use Rattle.layout.proofs.set_places.Goals as goal
 
-pub loop-kind-init : goal.loop-kind-init
-loop-kind-init c = slotting_none
+pub loop-j-init : goal.loop-j-init
+loop-j-init c = slots_none _ _
 
-pub set_kind_places-requires : goal.set_kind_places-requires
-set_kind_places-requires c =
-    let n = next_kind c.requires.0 c.requires.1 _ c.loop-kind-test.true in
-    let w = c.loop-kind.invariant in
-    (omega arith, omega (arith, w.firsts.long), omega (arith, w.lasts.long))
+pub loop-j-preserved : goal.loop-j-preserved
+loop-j-preserved c =
+    let v = c.args.queue.now.valid in
+    slots_more v c.requires (next_kind v c.requires c.loop-j-test.true) c.args.places.now (omega arith) c.loop-j.invariant refl c.set_kind_places.ensures
 
-pub loop-kind-preserved : goal.loop-kind-preserved
-loop-kind-preserved c =
-    let called = c.set_kind_places.ensures in
-    slotting_more c.requires.0 c.requires.1 c.loop-kind.invariant _ _ c.loop-kind-test.true called.earliest_after called.latest_after
-
-pub returns-clause-slots_after : goal.returns-clause-slots_after
-returns-clause-slots_after c = (slotting_done c.requires.0 c.requires.1 c.loop-kind.invariant c.loop-kind-test.false).0
-
-pub returns-clause-earliest_after : goal.returns-clause-earliest_after
-returns-clause-earliest_after c = (slotting_done c.requires.0 c.requires.1 c.loop-kind.invariant c.loop-kind-test.false).1.0
-
-pub returns-clause-latest_after : goal.returns-clause-latest_after
-returns-clause-latest_after c = (slotting_done c.requires.0 c.requires.1 c.loop-kind.invariant c.loop-kind-test.false).1.1
+pub returns : goal.returns
+unfolding by_slot
+returns c =
+    let q = c.args.queue.now.queue in
+    let all : c.loop-j.j ≡ q.kinds = omega (arith, length-take q.kinds c.args.kinds.now, c.args.queue.now.valid.kinds) in
+    c.loop-j.invariant ∙ ap (slots_of q c.args.places.now) all

@@ -1,9 +1,7 @@
--- `Slotting` is what the loop keeps.
-use Rattle.queue.specs.Record.{first_place, last_place}
-use Rattle.layout.proofs.Places.{Slotting}
+-- The slots of the kinds passed are set.
+use Rattle.std.proofs.Common.{◌≡◌}
+use Rattle.layout.proofs.Places.{slots_of}
 use Rattle.layout.proofs.set_places.Given as goal
 
-abbrev pub invariant-loop-kind : goal.invariant-loop-kind
-invariant-loop-kind l =
-    let q = l.queue in
-    Slotting l.counts l.begins l.jobs (first_place q) (last_place q) q.max_shift q.kinds l.fn.slots l.fn.earliest l.fn.latest l.slots l.earliest l.latest l.kind
+abbrev pub invariant-loop-j : goal.invariant-loop-j
+invariant-loop-j l = l.places ≡ slots_of l.queue l.fn.places l.j

@@ -1,18 +1,9 @@
--- `Cutting` goes on with each job cut; a place that the order does not have has no finish.
-use Rattle.std.proofs.Common.{arith, inl, inr}
+-- `Cutting` goes on with each job cut.
 use Rattle.gaps.specs.Gaps.{gap_between}
 use Rattle.sequencing.specs.Problem.{kind as kindIn}
 use Rattle.problem.specs.OfQueue.{problem}
-use Rattle.plan_lines.proofs.Finishing.{finish_past, cutting_more}
+use Rattle.plan_lines.proofs.Finishing.{cutting_more}
 use Rattle.plan_lines.proofs.finish_at.Goals as goal
-
-pub returns-in_default : goal.returns-in_default
-returns-in_default c =
-    let q = c.args.queue in
-    elim c.in_default.ensures.lookup.0 [
-      | inl below ↦ absurd (omega arith)
-      | inr past ↦ finish_past (gap_between q.gaps) (kindIn (problem q)) q.start c.args.order c.args.place past
-    ]
 
 pub loop-job-preserved : goal.loop-job-preserved
 loop-job-preserved c =

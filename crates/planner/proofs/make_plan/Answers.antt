@@ -1,5 +1,5 @@
 -- The table filled, then 17 where nothing was found, else the order followed and written.
-use Rattle.std.proofs.Common.{◌≡◌, sym, ◌∙◌, arith, rules, Some, Err}
+use Rattle.std.proofs.Common.{◌≡◌, sym, ◌∙◌, rules, Some, Err}
 use Rattle.std.specs.Prelude.{Result}
 use Rattle.refusal.specs.Answers.{Answer}
 use Rattle.refusal.specs.declared.Reason.{Reason}
@@ -21,25 +21,27 @@ returns-in_err-first-clause-value c =
     let none = c.in_err-first.ensures.ok_part in
     let e : c.from_residual.result ≡ Err c.in_err-first.field-0.0 = search rules in
     let why : ◌≡◌ {A = Answer} (Err c.in_err-first.field-0.0) (Err NoOrder) = same_reason (rw none at c.in_err-first.ensures.value) in
-    e ∙ why ∙ (ends_unplannable c.args.setup.now.queue c.args.buffer.now told.filled_table (sym none ∙ told.first_choice_value)).0
+    e ∙ why ∙ (ends_unplannable c.args.lent.now.setup.now.queue c.args.buffer.now told.filled_table (sym none ∙ told.first_choice_value)).0
 
 pub new-requires : goal.new-requires
-new-requires c = let f = c.solve-solution.ensures.filled_table in (all_filled f, omega (arith, f.long))
+new-requires c = let told = c.solve-solution.ensures in rw told.loan.0 (all_filled told.filled_table)
 
 pub follow-order-requires : goal.follow-order-requires
 follow-order-requires c =
-    let all = c.all_left-all.ensures in
-    rw c.new.ensures.setup_value
-    (start_share c.args.setup.now.queue all.left_of all.index_value (sym c.in_ok-first.ensures.ok_part ∙ c.solve-solution.ensures.first_choice_value))
+    let told = c.solve-solution.ensures in
+    let all = rw told.loan.0 at c.all_left-all.ensures in
+    rw (c.new.ensures.setup_value, told.loan.0)
+    (start_share c.args.lent.now.setup.now.queue all.left_of all.index_value (sym c.in_ok-first.ensures.ok_part ∙ told.first_choice_value))
 
 pub returns : goal.returns
 returns c =
-    let all = c.all_left-all.ensures in
+    let s = c.args.lent.now.setup.now in
     let told = c.solve-solution.ensures in
-    let found : Some c.in_ok-first.first ≡ first_choice c.args.setup.now.queue = sym c.in_ok-first.ensures.ok_part ∙ told.first_choice_value in
-    let follows = rw c.new.ensures.setup_value at c.follow-order.ensures in
-    let s : Solved c.args.setup.now.queue c.args.table.now c.solve-solution.new.table c.in_ok-first.first c.number-cost.result c.solve-solution.result.feasible_states =
-    record { valid = c.args.setup.now.valid; fills = told.filled_table; found = found; cost_is = c.number-cost.ensures; states_are = told.feasible_states_value } in
-    let ends = ends_planned s c.args.buffer.now c.requires.1 (order_followed c.args.setup.now.queue all.left_of all.index_value found follows)
-    c.write_plan.ensures.value c.write_plan.ensures.buffer_after in
-    record { value = ends.0; leaves_table = ends.1.0; buffer_after = ends.1.1 }
+    let all = rw told.loan.0 at c.all_left-all.ensures in
+    let found : Some c.in_ok-first.first ≡ first_choice s.queue = sym c.in_ok-first.ensures.ok_part ∙ told.first_choice_value in
+    let follows = rw (c.new.ensures.setup_value, told.loan.0) at c.follow-order.ensures in
+    let made : Solved s.queue c.args.lent.now.table.now c.solve-solution.new.lent.table.now c.in_ok-first.first c.number.result c.solve-solution.result.feasible_states =
+    record { valid = s.valid; fills = told.filled_table; found = found; cost_is = c.number.ensures; states_are = told.feasible_states_value } in
+    let written = rw told.loan.0 at c.write_plan.ensures in
+    let ends = ends_planned made c.args.buffer.now c.requires (order_followed s.queue all.left_of all.index_value found follows) written.value written.buffer_after in
+    record { loan = told.loan; value = ends.0; leaves_table = ends.1.0; buffer_after = ends.1.1 }

@@ -1,5 +1,5 @@
 -- The table filled, then looked at from the start.
-use Rattle.std.proofs.Common.{◌≡◌, arith, ◌∙◌}
+use Rattle.std.proofs.Common.{◌≡◌, ◌∙◌}
 use Rattle.sequencing.specs.Entries.{k_at}
 use Rattle.problem.specs.OfQueue.{problem}
 use Rattle.filling.proofs.Tables.{all_filled}
@@ -8,11 +8,15 @@ use Rattle.solver.proofs.Start.{first_found}
 use Rattle.solver.proofs.solve.Goals as goal
 
 pub new-requires : goal.new-requires
-new-requires c = let f = c.fill-feasible_states.ensures.filled_table in (all_filled f, omega (arith, f.long, c.requires))
+new-requires c = let same = c.fill-feasible_states.ensures.loan in rw same.0 (all_filled c.fill-feasible_states.ensures.filled_table)
 
 pub returns-clause-first_choice_value : goal.returns-clause-first_choice_value
 returns-clause-first_choice_value c =
-    let e = c.all_left.ensures.index_value in
-    let at : c.look-first.result ≡ look c.args.setup.now.queue c.args.setup.now.queue.start (k_at (problem c.args.setup.now.queue) c.all_left.result.index) =
-    rw c.new.ensures.setup_value at c.look-first.ensures in
-    rw e at at ∙ first_found c.args.setup.now.queue
+    let same = c.fill-feasible_states.ensures.loan in
+    let q = c.args.lent.now.setup.now.queue in
+    let e = rw same.0 at c.all_left.ensures.index_value in
+    let at : c.look-first.result ≡ look q q.start (k_at (problem q) c.all_left.result.index) = rw (c.new.ensures.setup_value, same.0) at c.look-first.ensures in
+    rw e at at ∙ first_found q
+
+pub returns-clause-filled_table : goal.returns-clause-filled_table
+returns-clause-filled_table c = c.fill-feasible_states.ensures.filled_table

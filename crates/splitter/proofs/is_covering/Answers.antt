@@ -10,8 +10,10 @@ pub returns-then-jobs-eq0 : goal.returns-then-jobs-eq0
 unfolding all from
 returns-then-jobs-eq0 c = rw c.if-jobs-eq0.true
 
-pub returns-then-first-gt1 : goal.returns-then-first-gt1
-returns-then-first-gt1 c = sym (covering_ends _ _ _ (omega arith) ∙ rw (lt-leb _ _ c.if-first-gt1.true))
+pub returns-then-window-le1 : goal.returns-then-window-le1
+returns-then-window-le1 c =
+    let w = c.args.window.now in
+    rw c.from.ensures (sym (covering_ends c.args.jobs w.first w.last (omega arith) ∙ rw (le-leb w.first 1 c.if-window-le1.true)))
 
-pub returns : goal.returns
-returns c = sym (covering_ends _ _ _ (omega arith) ∙ rw (le-leb _ _ c.if-first-gt1.false))
+pub returns-else-window-le1 : goal.returns-else-window-le1
+returns-else-window-le1 c = sym (covering_ends _ _ _ (omega arith) ∙ rw (lt-leb _ _ c.if-window-le1.false))

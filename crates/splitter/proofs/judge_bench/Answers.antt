@@ -25,11 +25,11 @@ pub returns-in_err-check : goal.returns-in_err-check
 returns-in_err-check c =
     let refused : c.from_residual.result ≡ Err c.in_err-check.field-0.0 = search rules in
     let (uncovered, why) = failed _ _ _ c.in_err-check.ensures in
-    rw (refused, why) (sym (bench_uncovered c.args.queue.now c.args.second (sym c.covers_all.ensures ∙ uncovered)))
+    rw (refused, why) (sym (bench_uncovered c.args.queue.now.queue c.args.second (sym c.covers_all.ensures ∙ uncovered)))
 
 pub returns : goal.returns
 returns c =
-    let q : Queue = c.args.queue.now in
+    let q : Queue = c.args.queue.now.queue in
     let covering : Is (covers q) = rw (sym c.covers_all.ensures ∙ passed _ _ c.in_ok-check.ensures) tt in
     elim (dichotomy (ltb q.kinds c.args.second)) [
       | inr t ↦ (let over = ltb-true q.kinds c.args.second t in

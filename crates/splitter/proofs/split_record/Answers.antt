@@ -1,5 +1,7 @@
 -- 19 or 20, or what becomes of what is lent.
-use Rattle.std.proofs.Common.{rules, Err, ◌≡◌, sym}
+use Rattle.std.proofs.Common.{rules, Err, ◌≡◌, sym, true}
+use Rattle.problem.proofs.Tests.{same_test}
+use Rattle.splitting.specs.Covers.{covers}
 use Rattle.best_split.proofs.Endings.{bench_enough, bench_refused, bench_passed}
 use Rattle.splitter.proofs.split_record.Goals as goal
 
@@ -14,8 +16,10 @@ returns-in_err-judge_bench-clause-leaves_table c = rw (bench_refused _ _ _ _ _ (
 pub returns-in_err-judge_bench-clause-buffer_after : goal.returns-in_err-judge_bench-clause-buffer_after
 returns-in_err-judge_bench-clause-buffer_after c = rw (bench_refused _ _ _ _ _ (sym c.in_err-judge_bench.ensures))
 
-pub split_lent-requires : goal.split_lent-requires
-split_lent-requires c = let enough = bench_enough _ _ (sym c.in_ok-judge_bench.ensures) in (c.requires, (enough.0, enough.1))
+pub invariant_of-split_lent : goal.invariant_of-split_lent
+invariant_of-split_lent c =
+    let (covering, second_in) = bench_enough _ _ (sym c.in_ok-judge_bench.ensures) in
+    record { covered = same_test (covers c.args.queue.queue) true (λ _. tt) (λ _. covering); second_in = second_in }
 
 pub returns-clause-value : goal.returns-clause-value
 returns-clause-value c = rw (bench_passed _ _ _ _ (sym c.in_ok-judge_bench.ensures)) c.split_lent.ensures.value

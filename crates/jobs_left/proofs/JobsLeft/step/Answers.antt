@@ -1,14 +1,21 @@
 -- One job of the first kind more is a step that ends at once; a carry is the callee's.
-use Rattle.std.proofs.Common.{arith}
+use Rattle.std.proofs.Common.{◌≡◌, ◌<◌, length, get_or, arith}
+use Rattle.jobs_left.specs.Kinds.{no_kind}
 use Rattle.jobs_left.proofs.Stepping.{stepping_none, stepping_out}
 use Rattle.jobs_left.proofs.Sums.{Carried, carried_out}
 use Rattle.jobs_left.proofs.JobsLeft.step.Goals as goal
+use Rattle.jobs_left.proofs.JobsLeft.step.Goals.{Then-self-first}
 
-pub returns-then-self-counts-clause-left_after : goal.returns-then-self-counts-clause-left_after
-returns-then-self-counts-clause-left_after c = (stepping_out (omega arith) (omega arith) stepping_none c.if-kinds-gt0.true c.if-self-counts.true).0
+first : (c : Then-self-first) → (0 < length c.args.kinds.now) × (c.in-Some.first.now ≡ get_or c.args.kinds.now 0 no_kind)
+first c = let is = c.in-Some.ensures.item.3 in (is.0, is.1 no_kind)
 
-pub returns-then-self-counts-clause-summed : goal.returns-then-self-counts-clause-summed
-returns-then-self-counts-clause-summed c =
-    let k = c.args.self.now in
-    let sums : Carried c.args.weights.now k.left c.args.kinds k.jobs k.weight k.jobs k.weight = record { sums = c.requires.1.0; fewer = omega arith; lighter = omega arith } in
-    carried_out (omega arith) sums 0 c.if-kinds-gt0.true
+pub returns-then-self-first-clause-left_after : goal.returns-then-self-first-clause-left_after
+returns-then-self-first-clause-left_after c =
+    let (some, is) = first (goal.at.returns-then-self-first-clause-left_after c).Then-self-first in
+    (stepping_out (omega arith) stepping_none some (rw is at c.if-self-first.true)).left_after
+
+pub returns-then-self-first-clause-summed_after : goal.returns-then-self-first-clause-summed_after
+returns-then-self-first-clause-summed_after c =
+    let (some, is) = first (goal.at.returns-then-self-first-clause-summed_after c).Then-self-first in
+    let sums : Carried c.args.kinds.now c.args.self.now c.args.self.now = record { sums = c.requires.summed; fewer = omega arith; lighter = omega arith } in
+    rw (c.from.ensures, is) (carried_out (omega arith) sums 0 some)

@@ -2,7 +2,9 @@
 use Rattle.std.proofs.Common.{◌≡◌, refl, suc, arith, sym, ◌∙◌, add-one}
 use Rattle.sequencing.specs.Entries.{block}
 use Rattle.problem.specs.OfQueue.{problem}
-use Rattle.filling.proofs.Counting.{counting_none, may_step, counting_more, left_here}
+use Rattle.jobs_left.proofs.Stepping.{Stepped}
+use Rattle.layout.proofs.Prepared.{kinds_room}
+use Rattle.filling.proofs.Counting.{counting_none, step_small, counting_more, left_here}
 use Rattle.split_search.proofs.Searching.{Holds, in_unit_held, held_done, may_compare, turn_over, turn_better, turn_worse}
 use Rattle.split_search.proofs.Bench.best_split.Goals as goal
 use Rattle.split_search.proofs.Bench.best_split.Goals.{in-Some+then-is_better, in-Some+else-is_better, in_default}
@@ -27,9 +29,12 @@ is_better-requires c =
     let here = left_here setup.valid setup.prepared c.loop.invariant.counting (omega arith) in
     may_compare c.args.self.now here c.loop.best c.loop.invariant.holds c.in-Some.ensures
 
-pub step-requires : goal.step-requires
-step-requires c =
-    let setup = c.args.self.now.filled.setup.now in may_step setup.valid setup.prepared c.loop.invariant.counting (omega arith)
+pub step-requires-clause-few : goal.step-requires-clause-few
+step-requires-clause-few c = let setup = c.args.self.now.filled.setup.now in rw c.kinds.ensures (kinds_room setup.queue setup.valid)
+
+pub step-requires-clause-small : goal.step-requires-clause-small
+step-requires-clause-small c =
+    let setup = c.args.self.now.filled.setup.now in step_small setup.valid setup.prepared c.loop.invariant.counting (omega arith)
 
 pub loop-preserved : goal.loop-preserved
 loop-preserved c =
@@ -38,6 +43,7 @@ loop-preserved c =
     let w = c.loop.invariant in
     let here = left_here setup.valid setup.prepared w.counting (omega arith) in
     let step = c.step.ensures in
+    let stepped : Stepped c.kinds.result.now c.loop.k.left c.step.new.self.left = record { left_after = step.left_after; left_unchanged = step.left_unchanged } in
     let more : c.step.new.self.index ≡ suc c.loop.k.index = step.index_value ∙ add-one c.loop.k.index in
     let turned : Holds setup.queue b.second (suc c.loop.k.index) c.match-split_cost.best = elim c.match-split_cost.branch [
       | in-Some+then-is_better t ↦ rw t.best-is (turn_better b here c.loop.best w.holds t.in-Some.ensures (sym t.is_better.ensures ∙ t.if-is_better.true))
@@ -46,7 +52,7 @@ loop-preserved c =
     ] in
     record {
       index_is = omega arith;
-      counting = counting_more setup.valid setup.prepared w.counting (omega arith) c.step.new.self step.left_after step.summed step.left_unchanged more;
+      counting = counting_more setup.valid setup.prepared w.counting (omega arith) c.kinds.ensures c.step.new.self stepped step.summed_after more;
       holds = rw more turned;
     }
 
