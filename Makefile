@@ -48,13 +48,18 @@ $(INSTALLED):
 	@mkdir -p $(@D)
 	@cp $< $@
 
+# The archive with each function at a multiple of 64, which changes no byte of code: the compiler asks for 16, and where a link then put the loops moved the
+# time of a small queue by up to a quarter.
+ALIGN = objcopy --set-section-alignment '.text*=64' $(1) $(2) 2> /dev/null || \
+	{ echo "No objcopy that aligns sections here: the archive is as compiled, and by its link up to a quarter slower"; cp $(1) $(2); }
+
 # A line for each crate, as it is proved.
 lib: $(INSTALLED) ## the archive, both headers and a pkg-config file, in target/lib and target/include
 	@command -v rt > /dev/null || { echo "The part is built with the Rattle toolchain: no command rt here"; exit 1; }
 	@echo "Building the part: its crates are proved, then compiled. From nothing that takes some ten minutes."
 	@mkdir -p target/lib/pkgconfig && rm -f target/lib/made-of && $(MADE_OF) > target/lib/made-of.part
 	@cd crates/kippertarn && sh ../../tools/crate_lines.sh rt lib
-	@cp crates/kippertarn/out/libkippertarn.a target/lib/libkippertarn.a
+	@$(call ALIGN,crates/kippertarn/out/libkippertarn.a,target/lib/libkippertarn.a)
 	@$(call PC,$(CURDIR)/target) > target/lib/pkgconfig/kippertarn.pc
 	@mv target/lib/made-of.part target/lib/made-of
 	@echo "Built: target/lib/libkippertarn.a"; echo

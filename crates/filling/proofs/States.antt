@@ -1,20 +1,18 @@
 -- The entries of all states with one k, as a loop over the kinds stores them.
 -- Assumes nothing.
 use Prim.Native.Nat.{ℕ, suc, ◌+◌, ◌-◌, ◌*◌, ◌/◌, ◌^◌, ◌<◌, ◌≤◌}
-use mathlib.Core.Bool.{Bool, true, false, false≢true}
+use mathlib.Core.Bool.{Bool, true, false}
 use mathlib.Core.List.{List, map}
 use mathlib.Core.Logic.{◌≢◌}
 use mathlib.Core.Option.{Option, none, some}
 use mathlib.Core.Path.{◌≡◌, refl, sym, ap, ◌∙◌}
 use native.Mathlib.Numerals.{add-one}
-use native.Mathlib.Nat.{add-zero}
 use native.Mathlib.Omega.{arith}
 use lib.Arith.{digits_lt, digits_div}
 use lib.ListN.{length, get_or, set, length-set}
 use lib.Seq.{get_or-set_same, get_or-set_other}
 use borrow.Author.Count.{below_more}
 use borrow.Author.Tests.{eq-eqb, ne_eqb}
-use Rattle.std.specs.Prelude.{is_some, unwrap_or, Some, None}
 use Rattle.queue.specs.declared.Queue.{Queue}
 use Rattle.sequencing.specs.Lists.{at, from, upto, sum}
 use Rattle.sequencing.specs.Problem.{Problem}
@@ -35,7 +33,7 @@ use Rattle.jobs_left.specs.Steps.{LeftOf}
 use Rattle.jobs_left.proofs.Weights.{factor_is}
 use Rattle.layout.specs.declared.Setup.{Setup}
 use Rattle.layout.proofs.Prepared.{kind_is, slot_in}
-use Rattle.next_states.specs.NextStates.{answer, none_of, Ready}
+use Rattle.next_states.specs.NextStates.{none_of, Ready}
 use Rattle.next_states.proofs.Candidates.{loaded_next, length_next, none_least, none_of_lem}
 use Rattle.next_states.proofs.Numbers.{number_at, left_is}
 use Rattle.filling.specs.Filling.{value_by, StatesStored, next_of, weight_of, entry_from}
@@ -55,9 +53,14 @@ pub kinds_none : {P : Problem} {entry : ℕ → Option ℕ} {i : ℕ} {table₀ 
 unfolding from sum
 kinds_none = record { long = refl; done = λ l h. absurd (omega arith); rest = λ n h. refl; many = refl }
 
--- a kind's block, from 0, and what the running number makes with it
-pub block_fits : (s : Setup) {i kind : ℕ} → i < block (problem s.queue) → kind < s.queue.kinds → (kind < 5) × (i + (kind_at s.layout.kinds (suc kind)).block < 2 ^ 64)
-block_fits s {i} {kind} within h =
+-- a kind of the loop is one of the queue's
+pub kind_in : (s : Setup) {kind : ℕ} → kind < s.layout.size.kinds → kind < s.queue.kinds
+kind_in s h = omega (arith, s.prepared.kinds_are)
+
+-- its block, from 0, and what the running number makes with it
+pub block_fits : (s : Setup) {i kind : ℕ} → i < block (problem s.queue) → kind < s.layout.size.kinds → (kind < 5) × (i + (kind_at s.layout.kinds (suc kind)).block < 2 ^ 64)
+block_fits s {i} {kind} within low =
+    let h = kind_in s low in
     let e : suc kind - 1 ≡ kind = omega arith in
     let is : (kind_at s.layout.kinds (suc kind)).block ≡ kind * block (problem s.queue) =
     ap (λ (k : Kind). k.block) (kind_is s.valid s.prepared (suc kind) (omega arith) h) ∙ ap (λ (n : ℕ). n * block (problem s.queue)) e in
@@ -65,47 +68,32 @@ block_fits s {i} {kind} within h =
     (omega (arith, s.valid.kinds), omega (arith, is, inside, entries_small s.queue s.valid))
 
 -- its entry is in a table that is long enough
-pub entry_in : (s : Setup) {i kind at n : ℕ} → i < block (problem s.queue) → entries (problem s.queue) ≤ n → kind < s.queue.kinds
-    → at ≡ number (problem s.queue) (suc kind) (k_at (problem s.queue) i) → (at < n) × (at < 2 ^ 60)
-entry_in s {i} {kind} within room h is =
+pub entry_in : (s : Setup) {i kind at n : ℕ} → i < block (problem s.queue) → entries (problem s.queue) ≤ n → kind < s.layout.size.kinds
+    → at ≡ number (problem s.queue) (suc kind) (k_at (problem s.queue) i) → at < n
+entry_in s {i} {kind} within room low is =
+    let h = kind_in s low in
     let at_is = is ∙ number_at (problem s.queue) kind i within in
     let inside : kind * block (problem s.queue) + i < entries (problem s.queue) = digits_lt h within in
-    (omega (arith, at_is, inside), omega (arith, at_is, inside, entries_small s.queue s.valid))
-
--- what an answer says
-found_is : (v : Option ℕ) {n : ℕ} → Some n ≡ answer v → v ≡ some n
-found_is none e = absurd (false≢true (sym (ap is_some e)))
-found_is (some c) e = ap some (sym (ap (λ r. unwrap_or r 0) e))
-
-none_is : (v : Option ℕ) → None ≡ answer v → v ≡ none
-none_is none e = refl
-none_is (some c) e = absurd (false≢true (ap is_some e))
+    omega (arith, at_is, inside)
 
 -- one kind more is stored
 module _ {P : Problem} {i : ℕ} (within : i < block P) {entry : ℕ → Option ℕ} {table₀ table : List ℕ} {feasible kind : ℕ} (w : KindsUpTo P entry i table₀ table feasible kind)
     {at : ℕ} (is : at ≡ number P (suc kind) (k_at P i)) (inside : at < length table) where
-  kinds_more : {value one : ℕ} → value ≡ stored (entry (suc kind)) → one ≡ valued (entry (suc kind)) → KindsUpTo P entry i table₀ (set table at value) (feasible + one) (kind + 1)
-  kinds_more {value} holds count =
+  pub kinds_more : {table' : List ℕ} {one : ℕ} → (table' ≡ set table at (stored (entry (suc kind)))) × (one ≡ valued (entry (suc kind)))
+      → KindsUpTo P entry i table₀ table' (feasible + one) (kind + 1)
+  kinds_more (holds, count) =
+      let value : ℕ = stored (entry (suc kind)) in
       let last : 1 + kind ≡ suc kind = omega arith in
       let there : at ≡ kind * block P + i = is ∙ number_at P kind i within in
-      record {
+      rw holds record {
         long = length-set table at value ∙ w.long;
         done =
             below_more (λ (l : ℕ). get_or (set table at value) (l * block P + i) 0 ≡ stored (entry (suc l))) kind
             (λ l u. get_or-set_other table at (l * block P + i) value 0 (λ q. omega (arith, same_block (block P) l kind i within (q ∙ there))) ∙ w.done l u)
-            (ap (λ (m : ℕ). get_or (set table at value) m 0) (sym there) ∙ get_or-set_same table at value 0 inside ∙ holds);
+            (ap (λ (m : ℕ). get_or (set table at value) m 0) (sym there) ∙ get_or-set_same table at value 0 inside);
         rest = λ m other. get_or-set_other table at m value 0 (λ q. other kind (omega arith) (q ∙ there)) ∙ w.rest m (λ l u. other l (omega arith));
         many = rw (add-one kind, sum_more, last) (omega (arith, count, w.many));
       }
-
-  pub more_found : {value : ℕ} → Some value ≡ answer (entry (suc kind)) → KindsUpTo P entry i table₀ (set table at value) (feasible + 1) (kind + 1)
-  more_found e = let v = found_is (entry (suc kind)) e in kinds_more (ap stored (sym v)) (ap valued (sym v))
-
-  pub more_none : None ≡ answer (entry (suc kind)) → KindsUpTo P entry i table₀ (set table at (2 ^ 64 - 1)) feasible (kind + 1)
-  more_none e =
-      let v = none_is (entry (suc kind)) e in
-      let more : KindsUpTo P entry i table₀ (set table at (2 ^ 64 - 1)) (feasible + 0) (kind + 1) = kinds_more (ap stored (sym v)) (ap valued (sym v)) in
-      rw add-zero at more
 
 pub kinds_done : {P : Problem} {i : ℕ} → i < block P → {entry : ℕ → Option ℕ} {table₀ table : List ℕ} {feasible : ℕ} → KindsUpTo P entry i table₀ table feasible P.N → StatesStored P entry table₀ i table feasible
 kinds_done {P} {i} within {table = table} w = record {

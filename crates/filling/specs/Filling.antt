@@ -14,6 +14,7 @@ use Rattle.jobs_left.specs.declared.JobsLeft.{JobsLeft}
 use Rattle.jobs_left.specs.declared.Kind.{Kind}
 use Rattle.jobs_left.specs.Kinds.{kind_at}
 use Rattle.jobs_left.specs.Steps.{LeftOf}
+use Rattle.layout.specs.declared.Setup.{Setup}
 use Rattle.layout.specs.PlaceSets.{is_in}
 use Rattle.next_states.specs.NextStates.{answer, next_values, candidate, Ready}
 
@@ -59,3 +60,7 @@ module _ (q : Queue) (table : List ℕ) (k : JobsLeft) where
   pub record Fillable : Type 0 where
     pub left_of : LeftOf (problem q) k
     pub ready : (L : ℕ) → 1 ≤ L → L ≤ q.kinds → Ready next_of q.gaps L weight_of
+
+-- the entries of one k stored, where places given as sets permit its states' jobs at a place told by its bit
+abbrev pub KStored : Setup → (table : List ℕ) → JobsLeft → (places : List ℕ) → (here : ℕ) → (table' : List ℕ) → (feasible : ℕ) → Type 0
+KStored s table k places here = StatesStored (problem s.queue) (entry_from s.queue table k (in_place k.left s.layout.kinds places here)) table k.index

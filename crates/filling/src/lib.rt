@@ -1,18 +1,19 @@
 // Filling the table of a queue: every state's value, and how many states are feasible.
 #![tactic(auto)]
 
-ghost use Rattle.std.specs.Prelude.{◌≡◌, ℕ, suc, ◌+◌, ◌-◌, ◌^◌, ◌≤◌, ◌<◌, length, get_or};
+ghost use Rattle.std.specs.Prelude.{◌≡◌, true, false, ℕ, suc, ◌+◌, ◌-◌, ◌^◌, ◌≤◌, ◌<◌, length, get_or, set};
+ghost use Rattle.gaps.specs.Gaps.{has_never};
 ghost use Rattle.std.proofs.Math.Option.{Option as OrNone, some};
 ghost use Rattle.sequencing.specs.Least.{only};
-ghost use Rattle.sequencing.specs.Entries.{block, entries, FilledTable};
-ghost use Rattle.sequencing.specs.Counts.{feasible_states};
+ghost use Rattle.sequencing.specs.Entries.{stored, block, entries, FilledTable};
+ghost use Rattle.sequencing.specs.Counts.{valued, feasible_states};
 ghost use Rattle.problem.specs.OfQueue.{problem};
-ghost use Rattle.jobs_left.specs.Kinds.{kind_at, factor};
+ghost use Rattle.jobs_left.specs.Kinds.{kind_at, step_of, factor};
 ghost use Rattle.jobs_left.specs.Steps.{LeftAt};
-ghost use Rattle.next_states.specs.NextStates.{answer, Ready};
-ghost use Rattle.filling.specs.Filling.{value_by, Answers, StatesStored, in_place, next_of, entry_from, Fillable};
+ghost use Rattle.next_states.specs.NextStates.{answer, none_of};
+ghost use Rattle.filling.specs.Filling.{value_by, Answers, StatesStored, in_place, next_of, Fillable, KStored};
 
-use jobs_left::JobsLeft;
+use jobs_left::{JobsLeft, StepWeight};
 use layout::Setup;
 use next_states::Look;
 
@@ -36,13 +37,15 @@ fn is_permitted(setup: &Setup, k: &JobsLeft, places: &[u64; 65], here: u64, kind
 }
 
 // The value of one state with jobs left, by a look from its kind: none where it is not feasible.
-fn state_value(look: &Look, permitted: bool) -> Option<u64>
+#[inline(always)]
+fn state_value<const FORBIDS: bool>(look: &Look, permitted: bool) -> Option<u64>
+    requires { FORBIDS ≡ false → has_never look.now.gaps.now.numbers ≡ false }
     ensures { result ≡ answer (value_by look.now.next.now look.now.gaps.now.numbers (factor look.now.weight) permitted look.now.row) }
 {
     if !permitted {
         return None;
     }
-    let least = look.least()?;
+    let least = look.least_by::<FORBIDS>()?;
     Some(least.cost.number())
 }
 
@@ -53,15 +56,32 @@ fn last_value(permitted: bool) -> Option<u64>
     permitted.then_some(0)
 }
 
+// Stores an entry; returns how many values it holds.
+fn store_value(table: &mut [u64], entry: usize, value: Option<u64>) -> u64
+    requires { entry < length table.old }
+    ensures stored { (v : OrNone ℕ) → value ≡ answer v → (table.new ≡ set table.old entry (stored v)) × (result ≡ valued v) }
+    ensures few { result ≤ 1 }
+{
+    match value {
+        Some(found) => {
+            table[entry] = found;
+            1
+        }
+        None => {
+            table[entry] = next_states::NONE;
+            0
+        }
+    }
+}
+
 // The place of the jobs just cut, as a bit: one place earlier where one job more is left, which most steps do; else it is shifted anew.
-fn place_after(here: u64, before: u32, jobs: u32, total: u32) -> u64
-    requires { (here ≡ 2 ^ (total - before)) × ((jobs ≤ total) × (total < 64)) }
+fn place_after(here: u64, one_more: bool, jobs: u32, total: u32) -> u64
+    requires earlier { one_more ≡ true → (1 ≤ jobs) × (here ≡ 2 ^ (total - (jobs - 1))) }
+    requires within { (jobs ≤ total) × (total < 64) }
     ensures { result ≡ 2 ^ (total - jobs) }
 {
-    if before < jobs {
-        if jobs - before == 1 {
-            return here / 2;
-        }
+    if one_more {
+        return here / 2;
     }
     layout::place_bit(total - jobs)
 }
@@ -83,15 +103,68 @@ impl<'a> Lent<'a> {
         let mut feasible: u64 = 0;
         for kind in 0..layout.size.kinds {
             let entry = next_states::state_entry(layout, index, kind);
-            match value(kind) {
-                Some(found) => {
-                    table[entry] = found;
-                    feasible += 1;
-                }
-                None => table[entry] = next_states::NONE,
-            }
+            feasible += store_value(table, entry, value(kind));
         }
         feasible
+    }
+
+    // Stores the entries of all states with one k, each by a look from its kind. `store_states` written out: a closure within four copies of it stays a call.
+    #[inline(always)]
+    fn store_values_by<const FORBIDS: bool>(
+        &mut self,
+        k: &JobsLeft,
+        places: &[u64; 65],
+        here: u64,
+        next: &[u64; 5],
+        weight: StepWeight,
+    ) -> u64
+        requires open { FORBIDS ≡ false → has_never self.old.setup.now.layout.gaps.numbers ≡ false }
+        requires fillable { Fillable self.old.setup.now.queue self.old.table.now k.now }
+        requires looks { (next.now ≡ next_of self.old.setup.now.queue self.old.table.now k.now) × (weight ≡ step_of self.old.setup.now.queue.goal k.now.weight) }
+        requires found { none_of next.now ≡ false }
+        ensures loan { SameLoan self.old self.new }
+        ensures stored { KStored self.old.setup.now self.old.table.now k.now places.now here self.new.table.now result }
+    {
+        let setup = self.setup;
+        let layout = &setup.layout;
+        // The loop writes to the table alone: nothing else of the loan is looked at again.
+        let table = &mut *self.table;
+        // Counts what is found, and is no index.
+        let mut feasible: u64 = 0;
+        for kind in 0..layout.size.kinds {
+            let entry = next_states::state_entry(layout, k.index, kind);
+            let permitted = is_permitted(setup, k, places, here, kind);
+            let look = Look {
+                next,
+                gaps: &layout.gaps,
+                row: kind + 1,
+                weight,
+            };
+            feasible += store_value(table, entry, state_value::<FORBIDS>(&look, permitted));
+        }
+        feasible
+    }
+
+    // The same, where whether any gap is never is told once for all states with one k.
+    #[inline(always)]
+    fn store_values(
+        &mut self,
+        k: &JobsLeft,
+        places: &[u64; 65],
+        here: u64,
+        next: &[u64; 5],
+        weight: StepWeight,
+    ) -> u64
+        requires fillable { Fillable self.old.setup.now.queue self.old.table.now k.now }
+        requires looks { (next.now ≡ next_of self.old.setup.now.queue self.old.table.now k.now) × (weight ≡ step_of self.old.setup.now.queue.goal k.now.weight) }
+        requires found { none_of next.now ≡ false }
+        ensures loan { SameLoan self.old self.new }
+        ensures stored { KStored self.old.setup.now self.old.table.now k.now places.now here self.new.table.now result }
+    {
+        if self.setup.layout.gaps.forbids {
+            return self.store_values_by::<true>(k, places, here, next, weight);
+        }
+        self.store_values_by::<false>(k, places, here, next, weight)
     }
 
     // The next states' entries, kind by kind.
@@ -107,7 +180,7 @@ impl<'a> Lent<'a> {
     fn fill_states(&mut self, k: &JobsLeft, places: &[u64; 65], here: u64) -> u64
         requires { Fillable self.old.setup.now.queue self.old.table.now k.now }
         ensures loan { SameLoan self.old self.new }
-        ensures stored { StatesStored (problem self.old.setup.now.queue) (entry_from self.old.setup.now.queue self.old.table.now k.now (in_place k.now.left self.old.setup.now.layout.kinds places.now here)) self.old.table.now k.now.index self.new.table.now result }
+        ensures stored { KStored self.old.setup.now self.old.table.now k.now places.now here self.new.table.now result }
     {
         let setup = self.setup;
         let next = self.next_entries(k);
@@ -119,24 +192,13 @@ impl<'a> Lent<'a> {
             }
             return self.store_states(k.index, |_| None);
         }
-        let gaps = &setup.layout.gaps;
-        let weight = k.step_weight(setup.queue.goal);
-        self.store_states(
-            k.index,
-            |kind: usize|
-                requires ready { Ready next gaps.now.numbers (kind + 1) (factor weight) }
-                requires slot_in { (kind < 5) × ((kind_at setup.now.layout.kinds (suc kind)).slot + get_or k.now.left kind 0 < 65) }
-            {
-                let permitted = is_permitted(setup, k, places, here, kind);
-                let look = Look {
-                    next: &next,
-                    gaps,
-                    row: kind + 1,
-                    weight,
-                };
-                state_value(&look, permitted)
-            },
-        )
+        // Each unit has a copy of the loop, so that no state asks which it is.
+        match k.step_weight(setup.queue.goal) {
+            StepWeight::Seconds => self.store_values(k, places, here, &next, StepWeight::Seconds),
+            StepWeight::Pupils(pupils) => {
+                self.store_values(k, places, here, &next, StepWeight::Pupils(pupils))
+            }
+        }
     }
 
     // Fills the table with every state's value; returns how many states are feasible.
@@ -147,15 +209,15 @@ impl<'a> Lent<'a> {
     {
         let setup = self.setup;
         let size = setup.layout.size;
-        let places = setup.place_sets();
+        let mut places = [0u64; 65];
+        setup.place_sets(&mut places);
         let mut k = JobsLeft::none();
         let mut here = layout::place_bit(size.jobs);
         let mut feasible: u64 = 0;
         for _ in 0..size.block {
             feasible += self.fill_states(&k, &places, here);
-            let before = k.jobs;
-            k.step(setup.kinds());
-            here = place_after(here, before, k.jobs, size.jobs);
+            let one_more = k.step(setup.kinds());
+            here = place_after(here, one_more, k.jobs, size.jobs);
         }
         feasible
     }

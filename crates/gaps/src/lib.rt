@@ -75,7 +75,8 @@ pub fn gap_after(gaps: &[u32], row: usize, kind: usize) -> Gap
 // The same where it is known not to be never: nothing is compared.
 pub fn seconds_after(gaps: &[u32], row: usize, kind: usize) -> Seconds
     requires { (gap_index row kind < length gaps.now) × (gap_between gaps.now row kind ≢ Never) }
-    ensures { gap_between gaps.now row kind ≡ Lasting result }
+    ensures gap_value { gap_between gaps.now row kind ≡ Lasting result }
+    ensures short { result.0 < 2 ^ 32 }
 {
     Seconds(u64::from(gaps[gap_index(row, kind)]))
 }

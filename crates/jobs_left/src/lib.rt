@@ -1,7 +1,7 @@
 // The jobs left: their weight, 01's W, and stepping through all k in the table's order.
 #![tactic(auto)]
 
-ghost use Rattle.std.specs.Prelude.{◌≡◌, ℕ, ◌+◌, ◌-◌, ◌*◌, ◌^◌, ◌≤◌, ◌<◌, length, get_or, set, take, drop, replicate};
+ghost use Rattle.std.specs.Prelude.{◌≡◌, true, ltb, ℕ, ◌+◌, ◌-◌, ◌*◌, ◌^◌, ◌≤◌, ◌<◌, length, get_or, set, take, drop, replicate};
 ghost use Rattle.jobs_left.specs.Kinds.{counts_of, weights_of, step_of};
 ghost use Rattle.jobs_left.specs.Steps.{next, Summed};
 
@@ -107,8 +107,8 @@ impl JobsLeft {
         }
     }
 
-    // Steps to the k whose index is one more. Most steps add one job of the first kind; the others carry.
-    pub fn step(&mut self, kinds: &[Kind])
+    // Steps to the k whose index is one more. Most steps add one job of the first kind, which is answered; the others carry.
+    pub fn step(&mut self, kinds: &[Kind]) -> bool
         requires few { length kinds.now ≤ 5 }
         requires summed { Summed (weights_of kinds.now) (take (length kinds.now) self.old.left) self.old.jobs self.old.weight }
         requires small { (self.old.jobs < 2 ^ 31) × ((self.old.weight < 2 ^ 31) × (self.old.index < 2 ^ 63)) }
@@ -116,6 +116,8 @@ impl JobsLeft {
         ensures left_unchanged { drop (length kinds.now) self.new.left ≡ drop (length kinds.now) self.old.left }
         ensures summed_after { Summed (weights_of kinds.now) (take (length kinds.now) self.new.left) self.new.jobs self.new.weight }
         ensures index_value { self.new.index ≡ self.old.index + 1 }
+        ensures first_value { result ≡ ltb (get_or self.old.left 0 0) (get_or (counts_of kinds.now) 0 0) }
+        ensures first_added { result ≡ true → self.new.jobs ≡ self.old.jobs + 1 }
     {
         self.index += 1;
         if let Some(first) = kinds.first() {
@@ -123,10 +125,11 @@ impl JobsLeft {
                 self.left[0] += 1;
                 self.jobs += 1;
                 self.weight += u64::from(first.weight);
-                return;
+                return true;
             }
         }
         self.carry(kinds);
+        false
     }
 
     // One job of kind x (from 0) is completed.

@@ -91,9 +91,6 @@ module _ {q : Queue} (v : Valid q) {l : Layout} (p : Prepared q l) where
   pub kinds_take : take q.kinds l.kinds ≡ map (kind_of q) (upto q.kinds)
   kinds_take = ap (take q.kinds) p.known_kinds ∙ take_sets_in (replicate 5 no_kind) (map (kind_of q) (upto q.kinds)) (kinds_room q v) q.kinds (kinds_long q)
 
-  pub counts_take : counts_of (take q.kinds l.kinds) ≡ all_left (problem q)
-  counts_take = ap counts_of kinds_take ∙ counts_known q
-
   -- no place permitted is past 60
   pub latest_few : (L n : ℕ) → 1 ≤ L → L ≤ q.kinds → latest_at q L n ≤ 60
   unfolding latest_at latest

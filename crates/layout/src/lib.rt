@@ -1,7 +1,7 @@
 // What is prepared once a call: N, T and P, the jobs of each kind, the places permitted to them, and the numbering of the table's entries.
 #![tactic(auto)]
 
-ghost use Rattle.std.specs.Prelude.{map, replicate, ◌≡◌, ℕ, ◌+◌, ◌-◌, ◌*◌, ◌^◌, ◌<◌, ◌≤◌, length, get_or};
+ghost use Rattle.std.specs.Prelude.{map, ◌≡◌, ℕ, ◌+◌, ◌-◌, ◌*◌, ◌^◌, ◌<◌, ◌≤◌, length, get_or};
 ghost use Rattle.std.proofs.lemmas.List.Edits.{sets};
 ghost use Rattle.fields.specs.Lists.{tabulate, filled};
 ghost use Rattle.queue.specs.Record.{Valid};
@@ -262,13 +262,12 @@ impl Setup {
         JobsLeft::new(left, self.layout.size.block - 1, self.kinds())
     }
 
-    // The places permitted to each kind's job just cut, as sets, in the T + N slots that are used, then none.
-    pub fn place_sets(&self) -> [u64; 65]
-        ensures { (i : ℕ) → get_or result i 0 ≡ set_at self.now.layout.places (self.now.queue.jobs + self.now.queue.kinds) (replicate 65 0) i }
+    // The places permitted to each kind's job just cut, as sets, in the T + N slots that are used; the others are left alone. Into the caller's array: one that
+    // is answered was copied twice.
+    pub fn place_sets(&self, sets: &mut [u64; 65])
+        ensures { (i : ℕ) → get_or sets.new i 0 ≡ set_at self.now.layout.places (self.now.queue.jobs + self.now.queue.kinds) sets.old i }
     {
-        let mut sets = [0u64; 65];
-        place_sets(&self.layout.places, self.layout.size, &mut sets);
-        sets
+        place_sets(&self.layout.places, self.layout.size, sets);
     }
 
     // The entries that the table needs: N times P.

@@ -1,10 +1,10 @@
 -- What each kind as the next comes to, and what is read for it; and where no next state has a value.
 -- Assumes nothing.
-use Prim.Native.Nat.{ℕ, zero, suc, ◌+◌, ◌-◌, ◌*◌, ◌^◌, ◌≤◌, ◌<◌}
+use Prim.Native.Nat.{ℕ, zero, suc, ◌+◌, ◌-◌, ◌^◌, ◌≤◌, ◌<◌}
 use mathlib.Core.Bool.{Bool, true, false, false≢true}
 use mathlib.Core.Logic.{◌≢◌}
 use mathlib.Core.List.{List}
-use mathlib.Core.Option.{Option, none, some}
+use mathlib.Core.Option.{Option, none}
 use mathlib.Core.Path.{◌≡◌, refl, sym, ap, ◌∙◌}
 use native.Mathlib.Omega.{arith}
 use lib.Dec.{ltb, eqb}
@@ -16,7 +16,7 @@ use Rattle.std.proofs.lemmas.List.Elements.{All-get_or, All-from_get_or}
 use borrow.Author.Count.{below_more}
 use borrow.Author.Tests.{lt-ltb}
 use Rattle.units.specs.declared.Seconds.{Seconds}
-use Rattle.gaps.specs.declared.Gap.TheVariants.{Lasting}
+use Rattle.gaps.specs.declared.Gap.TheVariants.{Lasting, Never}
 use Rattle.gaps.specs.Gaps.{gap_index, gap_at, gap_between, has_never}
 use Rattle.gaps.proofs.Gaps.{never_is}
 use Rattle.gaps.proofs.Nevers.{none_never}
@@ -25,9 +25,9 @@ use Rattle.sequencing.specs.Problem.{Problem}
 use Rattle.sequencing.specs.States.{complete}
 use Rattle.sequencing.specs.Least.{only, plus_gap, least}
 use Rattle.sequencing.specs.Entries.{stored, number}
-use Rattle.sequencing.proofs.Options.{none_some, plus_gap_none}
-use Rattle.next_states.specs.NextStates.{loaded, next_value, per_kind, next_values, none_of, candidate, Ready, Open}
-use Rattle.next_states.proofs.Stored.{Fits, fits, loaded_none, loaded_some, stored_loaded, least_past}
+use Rattle.sequencing.proofs.Options.{plus_gap_none}
+use Rattle.next_states.specs.NextStates.{loaded, next_value, per_kind, next_values, none_of, candidate, Counted, Ready}
+use Rattle.next_states.proofs.Stored.{Fits, fits, loaded_none, stored_loaded, least_past}
 
 -- ---- from a row
 
@@ -35,18 +35,10 @@ module _ {next gaps : List ℕ} {row w : ℕ} (r : Ready next gaps row w) where
   pub candidate_fits : (x : ℕ) → 1 ≤ x → x ≤ 5 → Fits (candidate next gaps row w x)
   candidate_fits x l u = fits (candidate next gaps row w x) (r.counted x l u).small
 
-  -- where kind x has a value and a gap of s seconds, its step can be counted
-  pub counted_step : (x : ℕ) → 1 ≤ x → x ≤ 5 → {s : Seconds} → gap_between gaps row x ≡ Lasting s → get_or next (x - 1) 0 ≢ 2 ^ 64 - 1
-      → (w < 2 ^ 16) × ((s.0 < 2 ^ 16) × (w * s.0 + get_or next (x - 1) 0 < 2 ^ 64))
-  counted_step zero l u lasting full = absurd (omega arith)
-  counted_step (suc x) l u {s} lasting full =
-      let e : suc x - 1 ≡ x = omega arith in
-      let c = r.counted (suc x) l u in
-      let value : loaded (get_or next x 0) ≡ some (get_or next x 0) = loaded_some (get_or next x 0) (rw e at full) in
-      rw e (
-        c.light,
-        (c.short s (λ z. none_some (get_or next x 0) (sym z ∙ value)) lasting, omega (arith, c.small (w * s.0 + get_or next x 0) (rw (lasting, value)))),
-      )
+  -- where kind x has a gap of s seconds, its step can be counted
+  pub counted_at : (x : ℕ) → 1 ≤ x → x ≤ 5 → {s : Seconds} → gap_between gaps row x ≡ Lasting s → Counted (loaded (get_or next (x - 1) 0)) (Lasting s) w
+  counted_at zero l u e = absurd (omega arith)
+  counted_at (suc x) l u e = let d : suc x - 1 ≡ x = omega arith in rw d (rw e at (r.counted (suc x) l u))
 
 -- ---- values by kind
 
@@ -124,9 +116,9 @@ module _ (P : Problem) (table k : List ℕ) where
 
 -- ---- those that may follow a row
 
--- where no gap is never, all may
-pub all_open : (next gaps : List ℕ) (row : ℕ) → has_never gaps ≡ false → Open next gaps row
-all_open next gaps row e x l u h n = none_never gaps (gap_index row x) e ((never_is (gap_at gaps row x)).0 n)
+-- where no gap is never, any may
+pub may_follow : (gaps : List ℕ) (row x : ℕ) → has_never gaps ≡ false → gap_between gaps row x ≢ Never
+may_follow gaps row x e n = none_never gaps (gap_index row x) e ((never_is (gap_at gaps row x)).0 n)
 
 -- ---- where none has a value
 

@@ -6,7 +6,7 @@ use Rattle.units.specs.declared.Seconds.{Seconds as Duration}
 use Rattle.units.specs.declared.Cost.{Cost}
 use Rattle.units.specs.declared.Cost.TheVariants.{InSeconds, InPupilSeconds}
 use Rattle.gaps.specs.declared.Gap.{Gap}
-use Rattle.gaps.specs.declared.Gap.TheVariants.{Lasting, Never}
+use Rattle.gaps.specs.declared.Gap.TheVariants.{Lasting}
 use Rattle.gaps.specs.Gaps.{gap_between}
 use Rattle.sequencing.specs.Lists.{at}
 use Rattle.sequencing.specs.Problem.{Problem}
@@ -72,7 +72,3 @@ pub record Counted (value : Option ℕ) (gap : Gap) (w : ℕ) : Type 0 where
 pub record Ready (next gaps : List ℕ) (row w : ℕ) : Type 0 where
   pub row_in : row ≤ 5
   pub counted : (x : ℕ) → 1 ≤ x → x ≤ 5 → Counted (loaded (at next x)) (gap_between gaps row x) w
-
--- every next state that has a value may follow row L
-abbrev pub Open : (next gaps : List ℕ) (row : ℕ) → Type 0
-Open next gaps row = (x : ℕ) → 1 ≤ x → x ≤ 5 → loaded (at next x) ≢ none → gap_between gaps row x ≢ Never

@@ -1,11 +1,11 @@
 // The next states of one k: where they stand in the table, what it holds for them, and the least over them from any row.
 #![tactic(auto)]
 
-ghost use Rattle.std.specs.Prelude.{◌≡◌, true, false, cond, ◌≢◌, ℕ, suc, min, ◌+◌, ◌*◌, ◌^◌, ◌≤◌, ◌<◌, ltb, length};
+ghost use Rattle.std.specs.Prelude.{◌≡◌, true, false, cond, ℕ, suc, min, ◌+◌, ◌^◌, ◌≤◌, ◌<◌, ltb, length};
 ghost use Rattle.std.proofs.Math.Option.{none};
 ghost use Rattle.units.specs.Costs.{number_of};
-ghost use Rattle.gaps.specs.declared.Gap.TheVariants.{Never};
-ghost use Rattle.gaps.specs.Gaps.{gap_between};
+ghost use Rattle.gaps.specs.declared.Gap.TheVariants.{Lasting};
+ghost use Rattle.gaps.specs.Gaps.{gap_between, has_never};
 ghost use Rattle.sequencing.specs.Lists.{at};
 ghost use Rattle.sequencing.specs.Problem.{Problem};
 ghost use Rattle.sequencing.specs.States.{complete};
@@ -13,7 +13,7 @@ ghost use Rattle.sequencing.specs.Least.{plus_gap};
 ghost use Rattle.sequencing.specs.Entries.{stored, number, k_at, block, entries};
 ghost use Rattle.jobs_left.specs.Kinds.{factor, kind_at};
 ghost use Rattle.next_states.specs.Numbers.{Numbers, Steppable, Running};
-ghost use Rattle.next_states.specs.NextStates.{loaded, answer, next_values, none_of, cost_by, least_next, Ready, Open};
+ghost use Rattle.next_states.specs.NextStates.{loaded, answer, next_values, none_of, cost_by, least_next, Counted, Ready};
 
 use gaps::{Gap, GapTable};
 use jobs_left::{JobsLeft, StepWeight};
@@ -57,16 +57,17 @@ fn cost_of(weight: StepWeight, number: u64) -> Cost
     }
 }
 
-// One step's cost and what comes after it, in the goal's own unit.
+// One step's cost and what comes after it, as an entry holds it, in the goal's own unit. No sum is larger than NONE, so that where nothing comes after it stands.
 fn step_cost(weight: StepWeight, gap: Seconds, value: u64) -> Cost
-    requires { (factor weight < 2 ^ 16) × ((gap.0 < 2 ^ 16) × (factor weight * gap.0 + value < 2 ^ 64)) }
-    ensures { result ≡ cost_by weight (factor weight * gap.0 + value) }
+    requires counted { Counted (loaded value) (Lasting gap) (factor weight) }
+    requires short { gap.0 < 2 ^ 32 }
+    ensures { result ≡ cost_by weight (stored (plus_gap (factor weight) (Lasting gap) (loaded value))) }
 {
     match weight {
-        StepWeight::Seconds => Cost::InSeconds(gap + Seconds(value)),
+        StepWeight::Seconds => Cost::InSeconds(Seconds(gap.0.saturating_add(value))),
         StepWeight::Pupils(pupils) => {
             let step = gap.weighted(pupils);
-            Cost::InPupilSeconds(step + PupilSeconds(value))
+            Cost::InPupilSeconds(PupilSeconds(step.0.saturating_add(value)))
         }
     }
 }
@@ -83,20 +84,15 @@ fn none_past(next: &[u64; 5], x: usize) -> bool
 
 impl<'a> Look<'a> {
     // The better of the least so far (NONE of its unit where there is none) and kind x (from 1), the earlier where they are equal. Without a value of its next
-    // state a kind changes nothing, and its gap is not looked up; nor does a kind that may not follow, which is asked only where anything is forbidden.
+    // state a kind changes nothing, nor does a kind that may not follow, which is asked only where anything is forbidden.
     #[inline(always)]
     fn lower<const FORBIDS: bool>(&self, best: Least, x: usize) -> Least
         requires kind_in { (1 ≤ x) × (x ≤ 5) }
-        requires open { FORBIDS ≡ false → loaded (at self.now.next.now x) ≢ none → gap_between self.now.gaps.now.numbers self.now.row x ≢ Never }
+        requires open { FORBIDS ≡ false → has_never self.now.gaps.now.numbers ≡ false }
         requires cost_value { (best.cost ≡ cost_by self.now.weight (number_of best.cost)) × (number_of best.cost < 2 ^ 64) }
         ensures cost_value_2 { result.cost ≡ cost_by self.now.weight (min (number_of best.cost) (stored (plus_gap (factor self.now.weight) (gap_between self.now.gaps.now.numbers self.now.row x) (loaded (at self.now.next.now x))))) }
         ensures kind_value { result.kind ≡ cond (ltb (stored (plus_gap (factor self.now.weight) (gap_between self.now.gaps.now.numbers self.now.row x) (loaded (at self.now.next.now x)))) (number_of best.cost)) x best.kind }
     {
-        // Compared as it is loaded: an `Option` for each entry of this loop took 1.1 to 1.4 of the time.
-        let value = self.next[x - 1];
-        if value == NONE {
-            return best;
-        }
         let gaps = &self.gaps.numbers;
         if FORBIDS {
             if let Gap::Never = gaps::gap_after(gaps, self.row, x) {
@@ -104,7 +100,8 @@ impl<'a> Look<'a> {
             }
         }
         let gap = gaps::seconds_after(gaps, self.row, x);
-        let cost = step_cost(self.weight, gap, value);
+        // Whether there is a value is not asked: small queues took a tenth longer where each entry of this loop was.
+        let cost = step_cost(self.weight, gap, self.next[x - 1]);
         if cost.less(best.cost) {
             Least { cost, kind: x }
         } else {
@@ -115,8 +112,8 @@ impl<'a> Look<'a> {
     // The least. Without FORBIDS no gap is compared with never, and none may be one. Five places are looked at, NONE where there is no kind: a loop of a fixed
     // length is unrolled.
     #[inline(always)]
-    fn least_by<const FORBIDS: bool>(&self) -> Option<Least>
-        requires { FORBIDS ≡ false → Open self.now.next.now self.now.gaps.now.numbers self.now.row }
+    pub fn least_by<const FORBIDS: bool>(&self) -> Option<Least>
+        requires { FORBIDS ≡ false → has_never self.now.gaps.now.numbers ≡ false }
         ensures { result ≡ least_next self.now.next.now self.now.gaps.now.numbers self.now.row self.now.weight }
     {
         let mut best = Least {
@@ -124,7 +121,7 @@ impl<'a> Look<'a> {
             kind: 0,
         };
         for x in 0..5 {
-            if !FORBIDS && none_past(self.next, x) {
+            if none_past(self.next, x) {
                 break;
             }
             best = self.lower::<FORBIDS>(best, x + 1);
@@ -134,7 +131,6 @@ impl<'a> Look<'a> {
 
     // The least over the next states that may follow. Most queues forbid nothing, and then nothing is compared with never.
     // Within the filling loop: a call for each state made planning half as slow again.
-    #[tactic(auto, using(crate::proofs::Candidates::all_open))]
     #[inline(always)]
     pub fn least(&self) -> Option<Least>
         ensures { result ≡ least_next self.now.next.now self.now.gaps.now.numbers self.now.row self.now.weight }

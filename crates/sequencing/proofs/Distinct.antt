@@ -2,7 +2,7 @@
 -- Assumes nothing.
 use mathlib.Core.List.Memᴰ
 use mathlib.Core.List.{List, [], ◌∷◌, Memᴰ}
-use mathlib.Core.Logic.{◌↔◌, ◌⊎◌, inl, inr}
+use mathlib.Core.Logic.{◌⊎◌, inl, inr}
 use mathlib.Core.Path.{◌≡◌, refl, sym, ap, ◌∙◌}
 use Prim.Native.Nat.{suc, ◌≤◌}
 use native.Mathlib.Omega.{arith}
@@ -37,6 +37,3 @@ module _ {A : Type 0} where
   shorter (x ∷ l) r d h =
       let m = h x (Memᴰ.head refl) in
       omega (arith, without_length m, shorter l (without m) d.1 (λ y t. others x y l r m d.0 (h y (Memᴰ.tail t)) t))
-
-  pub same_length : (l r : List A) → NoRepeats l → NoRepeats r → ((x : A) → Memᴰ x l ↔ Memᴰ x r) → length l ≡ length r
-  same_length l r d d' h = omega (arith, shorter l r d (λ x. (h x).0), shorter r l d' (λ x. (h x).1))

@@ -1,7 +1,7 @@
 // The two measures, which never meet in a sum or a comparison: times in seconds, and pupil-seconds, a weight times seconds.
 #![tactic(auto)]
 
-ghost use Rattle.std.specs.Prelude.{◌≡◌, ◌+◌, ◌*◌, ◌^◌, ◌<◌, ltb};
+ghost use Rattle.std.specs.Prelude.{◌≡◌, ◌+◌, ◌*◌, ◌%◌, ◌^◌, ◌<◌, ltb};
 ghost use Rattle.units.specs.Costs.{cost_in, number_of, in_seconds, together};
 
 use std::ops::Add;
@@ -22,12 +22,13 @@ pub enum Cost {
 }
 
 impl Seconds {
-    // What so many pupils wait together for that long: a product of 32 bits, which every processor multiplies out by itself.
+    // What so many pupils wait together for that long: a product of 32 bits, which every processor multiplies out by itself. Two factors of 16 bits lose nothing;
+    // a longer gap may be asked for where nothing comes of it.
     pub fn weighted(self, weight: u64) -> PupilSeconds
-        requires { (weight < 2 ^ 16) × (self.0 < 2 ^ 16) }
-        ensures { result.0 ≡ weight * self.0 }
+        requires { (weight < 2 ^ 32) × (self.0 < 2 ^ 32) }
+        ensures { result.0 ≡ weight * self.0 % 2 ^ 32 }
     {
-        PupilSeconds(u64::from(weight as u32 * self.0 as u32))
+        PupilSeconds(u64::from((weight as u32).wrapping_mul(self.0 as u32)))
     }
 }
 

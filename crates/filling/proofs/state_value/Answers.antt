@@ -18,4 +18,4 @@ numbers w kind none = refl
 numbers w kind (some c) = ap Some (number_by w c)
 
 pub returns : goal.returns
-returns c = rw c.if-not-permitted.false (ap Some c.number.ensures ∙ ap number_in c.in_ok-least.ensures ∙ numbers _ _ _)
+returns g c = rw c.if-not-permitted.false (ap Some c.number.ensures ∙ ap number_in c.in_ok-least.ensures ∙ numbers _ _ _)

@@ -1,11 +1,11 @@
 -- Each way stores what the entries get.
-use Rattle.std.proofs.Common.{ℕ, suc, false, add-one, Bool, ◌≡◌, ◌<◌, ◌+◌, sym, ap, ◌∙◌, rules, arith, get_or}
+use Rattle.std.proofs.Common.{ℕ, suc, Bool, ◌≡◌, ◌<◌, ◌+◌, sym, ap, ◌∙◌, rules, get_or}
 use Rattle.std.proofs.Math.Option.{some, none}
 use Rattle.sequencing.specs.Least.{only}
-use Rattle.jobs_left.specs.Kinds.{kind_at, factor}
+use Rattle.jobs_left.specs.Kinds.{kind_at}
 use Rattle.next_states.specs.NextStates.{answer, none_of}
-use Rattle.filling.specs.Filling.{value_by, in_place}
-use Rattle.filling.proofs.States.{slot_in_places, entry_last, entry_none, entry_value, ready_here}
+use Rattle.filling.specs.Filling.{in_place}
+use Rattle.filling.proofs.States.{slot_in_places, entry_last, entry_none}
 use Rattle.filling.proofs.Lent.fill_states.Goals as goal
 
 pub store_states-requires-clause-callable : goal.store_states-requires-clause-callable
@@ -30,21 +30,3 @@ returns-then-none_next-clause-stored c = c.store_states-then-none_next.ensures.s
     let found = ap none_of (sym c.next_entries-next.ensures) ∙ sym c.none_next.ensures ∙ c.if-none_next.true in
     let is : r ≡ answer none = search rules in
     is ∙ ap answer (entry_none s.queue a.self.now.table.now a.k.now permitted c.if-k-eq0.false found (suc x)))
-
-pub store_states-requires-2-clause-callable : goal.store_states-requires-2-clause-callable
-store_states-requires-2-clause-callable c x h =
-    let a = c.args in
-    let s = a.self.now.setup.now in
-    let ready = c.requires.ready (suc x) (omega arith) (omega arith) in
-    let here = ready_here s.queue a.self.now.table.now a.k.now c.next_entries-next.ensures s.prepared.gaps_are c.step_weight-weight.ensures ready in
-    (rw add-one here, slot_in_places s c.requires.left_of x h)
-
-pub returns-clause-stored : goal.returns-clause-stored
-returns-clause-stored c = c.store_states-2.ensures.stored _ (λ x r h e.
-    let a = c.args in
-    let s = a.self.now.setup.now in
-    let permitted : ℕ → Bool = in_place a.k.now.left s.layout.kinds a.places.now a.here in
-    let found : none_of c.next_entries-next.result ≡ false = sym c.none_next.ensures ∙ c.if-none_next.false in
-    let is : r ≡ answer (value_by c.next_entries-next.result s.layout.gaps.numbers (factor c.step_weight-weight.result) (permitted (suc x)) (suc x)) = search rules in
-    let value = entry_value s.queue a.self.now.table.now a.k.now c.next_entries-next.ensures s.prepared.gaps_are c.step_weight-weight.ensures in
-    is ∙ ap answer (value c.requires.left_of found permitted (suc x)))

@@ -4,7 +4,7 @@ use Rattle.jobs_left.specs.Kinds.{factor}
 use Rattle.next_states.proofs.Candidates.{candidate_fits, none_past}
 use Rattle.next_states.proofs.Lowest.{lowest_none, lowest_held, lowest_more, lowest_past, lowest_answer}
 use Rattle.next_states.proofs.Look.least_by.Goals as goal
-use Rattle.next_states.proofs.Look.least_by.Goals.{else-loop-x-test, then-loop-x-test+then-not-this+then-none_past}
+use Rattle.next_states.proofs.Look.least_by.Goals.{else-loop-x-test, then-loop-x-test+then-none_past}
 
 pub loop-x-init : goal.loop-x-init
 loop-x-init g c = lowest_none c.cost_of.ensures
@@ -21,6 +21,6 @@ returns g c =
     let look = c.args.self.now in
     c.then_some.ensures ∙ lowest_answer (lowest_past c.loop-x.invariant (elim c.loop-x-test.branch [
       | else-loop-x-test w ↦ λ y l u. absurd (omega arith)
-      | then-loop-x-test+then-not-this+then-none_past w ↦
+      | then-loop-x-test+then-none_past w ↦
           none_past look.next.now look.gaps.now.numbers look.row (factor look.weight) c.loop-x.x (w.none_past.ensures w.if-none_past.true)
     ])) (candidate_fits look.ready) c.number.ensures
