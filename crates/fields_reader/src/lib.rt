@@ -36,6 +36,7 @@ pub fn read_end(input: &mut Input) -> Result<(), Reason>
 }
 
 // The next number, of at most three groups, from `low` to `high`; any other is refused as `why`.
+#[inline(always)]
 pub fn read_field(input: &mut Input, low: u32, high: u32, why: Reason) -> Result<u32, Reason>
     ensures { Reads (field 3 (within low high) why) input.old input.new result }
 {
@@ -49,6 +50,7 @@ pub fn read_field(input: &mut Input, low: u32, high: u32, why: Reason) -> Result
 }
 
 // So many such numbers as `out` has room for, up to the first that is refused.
+#[inline(always)]
 pub fn read_run<T: Held>(
     input: &mut Input,
     low: u32,

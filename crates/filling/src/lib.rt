@@ -10,6 +10,7 @@ ghost use Rattle.sequencing.specs.Counts.{valued, feasible_states};
 ghost use Rattle.problem.specs.OfQueue.{problem};
 ghost use Rattle.jobs_left.specs.Kinds.{kind_at, step_of, factor};
 ghost use Rattle.jobs_left.specs.Steps.{LeftAt};
+ghost use Rattle.next_states.specs.Numbers.{StepsOf};
 ghost use Rattle.next_states.specs.NextStates.{answer, none_of};
 ghost use Rattle.filling.specs.Filling.{value_by, Answers, StatesStored, in_place, next_of, Fillable, KStored};
 
@@ -90,13 +91,19 @@ impl<'a> Lent<'a> {
     ghost use Rattle.filling.specs.Lending.{SameLoan};
 
     // Stores the entries of all states with one k, whose value a function of the kind (from 0) gives; returns how many of them hold one.
-    fn store_states<F: Fn(usize) -> Option<u64>>(&mut self, index: usize, value: F) -> u64
-        requires in_table { index < block (problem self.old.setup.now.queue) }
-        requires callable { (x : ℕ) → x < self.old.setup.now.queue.kinds → F.pre value x }
+    fn store_states<F: Fn(usize) -> Option<u64>>(
+        &mut self,
+        setup: &Setup,
+        index: usize,
+        value: F,
+    ) -> u64
+        requires lent { setup.now ≡ self.old.setup.now }
+        requires in_table { index < block (problem setup.now.queue) }
+        requires callable { (x : ℕ) → x < setup.now.queue.kinds → F.pre value x }
         ensures loan { SameLoan self.old self.new }
-        ensures stored { (f : ℕ → OrNone ℕ) → Answers self.old.setup.now.queue.kinds (F.post value) f → StatesStored (problem self.old.setup.now.queue) f self.old.table.now index self.new.table.now result }
+        ensures stored { (f : ℕ → OrNone ℕ) → Answers setup.now.queue.kinds (F.post value) f → StatesStored (problem setup.now.queue) f self.old.table.now index self.new.table.now result }
     {
-        let layout = &self.setup.layout;
+        let layout = &setup.layout;
         // The loop writes to the table alone: nothing else of the loan is looked at again.
         let table = &mut *self.table;
         // Counts what is found, and is no index.
@@ -112,20 +119,21 @@ impl<'a> Lent<'a> {
     #[inline(always)]
     fn store_values_by<const FORBIDS: bool>(
         &mut self,
+        setup: &Setup,
         k: &JobsLeft,
         places: &[u64; 65],
         here: u64,
         next: &[u64; 5],
         weight: StepWeight,
     ) -> u64
-        requires open { FORBIDS ≡ false → has_never self.old.setup.now.layout.gaps.numbers ≡ false }
-        requires fillable { Fillable self.old.setup.now.queue self.old.table.now k.now }
-        requires looks { (next.now ≡ next_of self.old.setup.now.queue self.old.table.now k.now) × (weight ≡ step_of self.old.setup.now.queue.goal k.now.weight) }
+        requires lent { setup.now ≡ self.old.setup.now }
+        requires open { FORBIDS ≡ false → has_never setup.now.layout.gaps.numbers ≡ false }
+        requires fillable { Fillable setup.now.queue self.old.table.now k.now }
+        requires looks { (next.now ≡ next_of setup.now.queue self.old.table.now k.now) × (weight ≡ step_of setup.now.queue.goal k.now.weight) }
         requires found { none_of next.now ≡ false }
         ensures loan { SameLoan self.old self.new }
-        ensures stored { KStored self.old.setup.now self.old.table.now k.now places.now here self.new.table.now result }
+        ensures stored { KStored setup.now self.old.table.now k.now places.now here self.new.table.now result }
     {
-        let setup = self.setup;
         let layout = &setup.layout;
         // The loop writes to the table alone: nothing else of the loan is looked at again.
         let table = &mut *self.table;
@@ -149,54 +157,67 @@ impl<'a> Lent<'a> {
     #[inline(always)]
     fn store_values(
         &mut self,
+        setup: &Setup,
         k: &JobsLeft,
         places: &[u64; 65],
         here: u64,
         next: &[u64; 5],
         weight: StepWeight,
     ) -> u64
-        requires fillable { Fillable self.old.setup.now.queue self.old.table.now k.now }
-        requires looks { (next.now ≡ next_of self.old.setup.now.queue self.old.table.now k.now) × (weight ≡ step_of self.old.setup.now.queue.goal k.now.weight) }
+        requires lent { setup.now ≡ self.old.setup.now }
+        requires fillable { Fillable setup.now.queue self.old.table.now k.now }
+        requires looks { (next.now ≡ next_of setup.now.queue self.old.table.now k.now) × (weight ≡ step_of setup.now.queue.goal k.now.weight) }
         requires found { none_of next.now ≡ false }
         ensures loan { SameLoan self.old self.new }
-        ensures stored { KStored self.old.setup.now self.old.table.now k.now places.now here self.new.table.now result }
+        ensures stored { KStored setup.now self.old.table.now k.now places.now here self.new.table.now result }
     {
-        if self.setup.layout.gaps.forbids {
-            return self.store_values_by::<true>(k, places, here, next, weight);
+        if setup.layout.gaps.forbids {
+            return self.store_values_by::<true>(setup, k, places, here, next, weight);
         }
-        self.store_values_by::<false>(k, places, here, next, weight)
+        self.store_values_by::<false>(setup, k, places, here, next, weight)
     }
 
     // The next states' entries, kind by kind.
-    fn next_entries(&self, k: &JobsLeft) -> [u64; 5]
-        requires { LeftAt (problem self.now.setup.now.queue) k.now.left k.now.index }
+    fn next_entries(&self, steps: &[usize; 5], k: &JobsLeft) -> [u64; 5]
+        requires left_at { LeftAt (problem self.now.setup.now.queue) k.now.left k.now.index }
+        requires steps { StepsOf self.now.setup.now.layout steps.now }
         ensures { result ≡ next_of self.now.setup.now.queue self.now.table.now k.now }
     {
-        next_states::load_next(&self.setup.layout, self.table, k)
+        next_states::load_next_by(steps, self.table, k)
     }
 
     // Fills the entries of all states with one k; returns how many of them hold a value. Where no next state has one, no state has, and neither places nor gaps
     // are looked at: with a small shift that is nearly every k.
-    fn fill_states(&mut self, k: &JobsLeft, places: &[u64; 65], here: u64) -> u64
-        requires { Fillable self.old.setup.now.queue self.old.table.now k.now }
+    fn fill_states(
+        &mut self,
+        setup: &Setup,
+        steps: &[usize; 5],
+        k: &JobsLeft,
+        places: &[u64; 65],
+        here: u64,
+    ) -> u64
+        requires lent { setup.now ≡ self.old.setup.now }
+        requires fillable { Fillable setup.now.queue self.old.table.now k.now }
+        requires steps { StepsOf setup.now.layout steps.now }
         ensures loan { SameLoan self.old self.new }
-        ensures stored { KStored self.old.setup.now self.old.table.now k.now places.now here self.new.table.now result }
+        ensures stored { KStored setup.now self.old.table.now k.now places.now here self.new.table.now result }
     {
-        let setup = self.setup;
-        let next = self.next_entries(k);
+        let next = self.next_entries(steps, k);
         if next_states::none_next(&next) {
             if k.jobs == 0 {
-                return self.store_states(k.index, |kind| {
+                return self.store_states(setup, k.index, |kind| {
                     last_value(is_permitted(setup, k, places, here, kind))
                 });
             }
-            return self.store_states(k.index, |_| None);
+            return self.store_states(setup, k.index, |_| None);
         }
         // Each unit has a copy of the loop, so that no state asks which it is.
         match k.step_weight(setup.queue.goal) {
-            StepWeight::Seconds => self.store_values(k, places, here, &next, StepWeight::Seconds),
+            StepWeight::Seconds => {
+                self.store_values(setup, k, places, here, &next, StepWeight::Seconds)
+            }
             StepWeight::Pupils(pupils) => {
-                self.store_values(k, places, here, &next, StepWeight::Pupils(pupils))
+                self.store_values(setup, k, places, here, &next, StepWeight::Pupils(pupils))
             }
         }
     }
@@ -209,14 +230,17 @@ impl<'a> Lent<'a> {
     {
         let setup = self.setup;
         let size = setup.layout.size;
+        // Once a call, as the setup beside the loan: what is read anew behind each store takes longer.
+        let kinds = setup.kinds();
+        let steps = next_states::steps(&setup.layout);
         let mut places = [0u64; 65];
         setup.place_sets(&mut places);
         let mut k = JobsLeft::none();
         let mut here = layout::place_bit(size.jobs);
         let mut feasible: u64 = 0;
         for _ in 0..size.block {
-            feasible += self.fill_states(&k, &places, here);
-            let one_more = k.step(setup.kinds());
+            feasible += self.fill_states(setup, &steps, &k, &places, here);
+            let one_more = k.step(kinds);
             here = place_after(here, one_more, k.jobs, size.jobs);
         }
         feasible

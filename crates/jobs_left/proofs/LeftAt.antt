@@ -26,7 +26,7 @@ use Rattle.jobs_left.proofs.Sums.{weigh_same}
 -- ---- strides and digits
 
 -- strides grow
-stride_grows : (cs : List ℕ) (y x : ℕ) → y ≤ x → x ≤ length cs → stride cs y ≤ stride cs x
+pub stride_grows : (cs : List ℕ) (y x : ℕ) → y ≤ x → x ≤ length cs → stride cs y ≤ stride cs x
 unfolding stride
 stride_grows cs zero x l u = omega arith
 stride_grows cs (suc y) zero l u = absurd (omega arith)

@@ -67,11 +67,11 @@ module _ (a b p : ℕ) where
       rw m (is_in_lem p h (2 ^ p - 2 ^ a) (omega (arith, pow_pos a, pow_pos p)) (omega (arith, pow-suc 2 (b - p), pow_pos (b - p))))
 
 -- the set of a range that ends by 60
-range_is : (a b : ℕ) → b ≤ 60 → places_from a b ≡ 2 ^ suc b - 2 ^ a
+pub range_is : (a b : ℕ) → b ≤ 60 → places_from a b ≡ 2 ^ suc b - 2 ^ a
 range_is a b h = rw (le-leb b 60 h)
 
 -- and of one that does not
-range_late : (a b : ℕ) → 60 < b → places_from a b ≡ 0
+pub range_late : (a b : ℕ) → 60 < b → places_from a b ≡ 0
 range_late a b h = rw (lt-leb b 60 h)
 
 -- and where it ends before it begins

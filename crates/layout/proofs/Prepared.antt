@@ -76,7 +76,7 @@ module _ (q : Queue) where
 
 module _ {q : Queue} {l : Layout} (p : Prepared q l) where
   -- N × P
-  sized : l.size.kinds * l.size.block ≡ entries (problem q)
+  pub sized : l.size.kinds * l.size.block ≡ entries (problem q)
   sized = ap₂ ◌*◌ p.kinds_are p.block_is
 
   pub size_fits : Valid q → l.size.kinds * l.size.block < 2 ^ 64

@@ -12,7 +12,7 @@ ghost use Rattle.sequencing.specs.States.{complete};
 ghost use Rattle.sequencing.specs.Least.{plus_gap};
 ghost use Rattle.sequencing.specs.Entries.{stored, number, k_at, block, entries};
 ghost use Rattle.jobs_left.specs.Kinds.{factor, kind_at};
-ghost use Rattle.next_states.specs.Numbers.{Numbers, Steppable, Running};
+ghost use Rattle.next_states.specs.Numbers.{Blocks, Numbers, Steppable, Running, StepsOf};
 ghost use Rattle.next_states.specs.NextStates.{loaded, answer, next_values, none_of, cost_by, least_next, Counted, Ready};
 
 use gaps::{Gap, GapTable};
@@ -72,12 +72,13 @@ fn step_cost(weight: StepWeight, gap: Seconds, value: u64) -> Cost
     }
 }
 
-// Whether no kind from x on (from 0) has a value, asked at 3 alone, and in one test: with three kinds or fewer a look then ends there.
-fn none_past(next: &[u64; 5], x: usize) -> bool
+// Whether no kind from x on (from 0) has a value, asked at 3, in one test: with three kinds or fewer a look then ends there. With FORBIDS it is asked at 4 too,
+// where a kind that is not there would be compared with never first; without, three kinds took a twentieth longer by it.
+fn none_past<const FORBIDS: bool>(next: &[u64; 5], x: usize) -> bool
     ensures { result ≡ true → (y : ℕ) → x < y → y ≤ 5 → loaded (at next.now y) ≡ none }
 {
     if x != 3 {
-        return false;
+        return FORBIDS && x == 4 && next[4] == NONE;
     }
     next[3] & next[4] == NONE
 }
@@ -121,7 +122,7 @@ impl<'a> Look<'a> {
             kind: 0,
         };
         for x in 0..5 {
-            if none_past(self.next, x) {
+            if none_past::<FORBIDS>(self.next, x) {
                 break;
             }
             best = self.lower::<FORBIDS>(best, x + 1);
@@ -153,7 +154,7 @@ pub fn none_next(next: &[u64; 5]) -> bool
 #[tactic(auto, using(crate::proofs::Numbers::state_number))]
 pub fn state_entry(layout: &Layout, index: usize, kind: usize) -> usize
     requires { (kind < 5) × (index + (kind_at layout.now.kinds (suc kind)).block < 2 ^ 64) }
-    ensures { (P : Problem) → Numbers P layout.now → index < block P → kind < P.N → result ≡ number P (suc kind) (k_at P index) }
+    ensures { (P : Problem) → Blocks P layout.now → index < block P → kind < P.N → result ≡ number P (suc kind) (k_at P index) }
 {
     index + layout.kinds[kind].block
 }
@@ -167,6 +168,15 @@ fn next_entry(layout: &Layout, index: usize, x: usize) -> usize
     index - layout.kinds[x].stride + layout.kinds[x].block
 }
 
+// For each kind the weight taken off and the block added, as one number that 64 bits add.
+pub fn steps(layout: &Layout) -> [usize; 5]
+    ensures { StepsOf layout.now result }
+{
+    layout
+        .kinds
+        .map(|kind| kind.block.wrapping_sub(kind.stride))
+}
+
 // The next states' entries, kind by kind, NONE where no job of a kind is left: read once for all states with one k.
 // That k runs along with a problem is asked here and not kept by a type, which would have to name the problem: no plainer.
 pub fn load_next(layout: &Layout, table: &[u64], k: &JobsLeft) -> [u64; 5]
@@ -178,6 +188,21 @@ pub fn load_next(layout: &Layout, table: &[u64], k: &JobsLeft) -> [u64; 5]
     for x in 0..5 {
         if k.left[x] != 0 {
             next[x] = table[next_entry(layout, k.index, x)];
+        }
+    }
+    next
+}
+
+// The same by such steps, which a caller has of a table's layout once for every k of it.
+pub fn load_next_by(steps: &[usize; 5], table: &[u64], k: &JobsLeft) -> [u64; 5]
+    requires { (P : Problem) × ((l : Layout) × (Running P l k.now × (StepsOf l steps.now × (entries P ≤ length table.now)))) }
+    ensures { (P : Problem) (l : Layout) → Running P l k.now → StepsOf l steps.now → entries P ≤ length table.now → result ≡ next_values P table.now (k_at P k.now.index) }
+{
+    let mut next = [NONE; 5];
+    // As `load_next`, but for the one sum: a weight and a block read for each k and kind took a tenth of filling where few states have a value.
+    for x in 0..5 {
+        if k.left[x] != 0 {
+            next[x] = table[k.index.wrapping_add(steps[x])];
         }
     }
     next

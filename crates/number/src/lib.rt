@@ -56,6 +56,7 @@ impl<'a> Input<'a> {
     ghost use Rattle.number.specs.Inputs.{Reads};
 
     // The number of at most `groups` groups that comes next. Nine groups are the most that 64 bits hold whole.
+    #[inline(always)]
     pub fn number(&mut self, groups: u32) -> Result<u64, Reason>
         requires { groups ≤ 9 }
         ensures { Reads (number groups) self.old self.new result }

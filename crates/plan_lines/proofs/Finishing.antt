@@ -22,7 +22,7 @@ use Rattle.problem.proofs.Rule.{jobs_is, kind_is}
 
 -- ---- the element at i
 
-at_past : (xs : List ℕ) (i : ℕ) → length xs < i → 0 ≡ at xs i
+pub at_past : (xs : List ℕ) (i : ℕ) → length xs < i → 0 ≡ at xs i
 at_past xs zero h = refl
 at_past xs (suc i) h = sym (get_or-eq_default xs 0 (omega arith))
 

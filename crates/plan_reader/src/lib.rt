@@ -24,6 +24,7 @@ fn read_job(input: &mut Input, earlier: &[u8], jobs: u32) -> Result<u8, Reason>
 }
 
 // The job at each place, so many as `out` has room for, up to the first that is refused.
+#[inline(always)]
 fn read_order(input: &mut Input, out: &mut [u8]) -> Result<(), Reason>
     requires { length out.old ≤ 60 }
     ensures value { Reads (λ s at. behind (order (length out.old) s at)) input.old input.new result }

@@ -15,6 +15,7 @@ use queue::{Queue, Window};
 use refusal::Reason;
 
 // The gap rows, each stored where it begins.
+#[inline(always)]
 fn read_gaps(input: &mut Input, kinds: usize, gaps: &mut [u32; 30]) -> Result<(), Reason>
     requires { kinds ≤ 5 }
     ensures value { Reads (λ s at. behind (times (kinds + 1) (times kinds (field 3 (within 0 65536) Reason.Gap)) s at)) input.old input.new result }
@@ -43,6 +44,7 @@ fn read_window(input: &mut Input) -> Result<Window, Reason>
 }
 
 // The allowed places of so many kinds as `out` has room for. No `read_run`: two numbers are judged together.
+#[inline(always)]
 fn read_windows(input: &mut Input, out: &mut [Window]) -> Result<(), Reason>
     ensures value { Reads (λ s at. behind (times (length out.old) window s at)) input.old input.new result }
     ensures out_after { out.new ≡ sets out.old 0 (map held (read_before (length out.old) window input.old.bytes.now input.old.at)) }

@@ -17,13 +17,13 @@ use Rattle.state_count.proofs.MoreKinds.{most_none, most_more}
 -- ---- how large they become
 
 -- one kind more, of at most 60 jobs, makes the product at most 61 times as large ..
-product_most : (j n product : ℕ) → n ≤ 60 → product ≤ 61 ^ j → product * (n + 1) ≤ 61 ^ (j + 1)
+pub product_most : (j n product : ℕ) → n ≤ 60 → product ≤ 61 ^ j → product * (n + 1) ≤ 61 ^ (j + 1)
 product_most j n product few p =
     let f : j + 1 ≡ suc j = omega arith in
     rw (f, pow-suc 61 j) (mul-le-mul {n₁ = product} {m₁ = n + 1} {n₂ = 61 ^ j} {m₂ = 61} p (omega (arith, few)))
 
 -- .. and the states, with room for one job more
-states_most : (j n states product : ℕ) → n ≤ 60 → states ≤ j * 61 ^ j → product ≤ 61 ^ j → states * (n + 1) + (n + 1) * product ≤ (j + 1) * 61 ^ (j + 1)
+pub states_most : (j n states product : ℕ) → n ≤ 60 → states ≤ j * 61 ^ j → product ≤ 61 ^ j → states * (n + 1) + (n + 1) * product ≤ (j + 1) * 61 ^ (j + 1)
 states_most j n states product few s p =
     let f : j + 1 ≡ suc j = omega arith in
     rw (f, suc-mul j (61 ^ suc j), pow-suc 61 j) (omega (
@@ -34,10 +34,10 @@ states_most j n states product few s p =
     ))
 
 -- both fit for five kinds
-fits_product : (j : ℕ) → j < 5 → 61 ^ (j + 1) < 2 ^ 64
+pub fits_product : (j : ℕ) → j < 5 → 61 ^ (j + 1) < 2 ^ 64
 fits_product j h = omega (arith, pow-le-pow_right {n = 61} (omega arith) {i = j + 1} {j = 5} (omega arith))
 
-fits_states : (j : ℕ) → j < 5 → (j + 1) * 61 ^ (j + 1) < 2 ^ 64
+pub fits_states : (j : ℕ) → j < 5 → (j + 1) * 61 ^ (j + 1) < 2 ^ 64
 fits_states j h = omega (
   arith,
   mul-le-mul {n₁ = j + 1} {m₁ = 61 ^ (j + 1)} {n₂ = 5} {m₂ = 61 ^ 5} (omega arith) (pow-le-pow_right {n = 61} (omega arith) {i = j + 1} {j = 5} (omega arith)),

@@ -50,7 +50,7 @@ module _ (f : Filled) {k : JobsLeft} (of : LeftOf (problem f.setup.now.queue) k)
   left = k_at (problem q) k.index
 
   -- with every entry filled
-  whole : TableAt q f.table.now k.left k.index
+  pub whole : TableAt q f.table.now k.left k.index
   whole = record { valid = f.setup.now.valid; earlier = λ L j a u h. f.filled L j a u (omega (arith, of.left_at.within)); left_at = of.left_at }
 
   factor_left : factor (step_of q.goal k.weight) ≡ W (problem q) left

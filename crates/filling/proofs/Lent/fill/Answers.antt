@@ -1,5 +1,5 @@
 -- A turn fills one index more, and counts its feasible states.
-use Rattle.std.proofs.Common.{refl, ◌≡◌, ◌-◌, ◌<◌, ◌∙◌, arith}
+use Rattle.std.proofs.Common.{refl, sym, ap, ◌≡◌, ◌-◌, ◌<◌, ◌∙◌, arith}
 use Rattle.problem.specs.OfQueue.{problem}
 use Rattle.jobs_left.proofs.Stepping.{Stepped}
 use Rattle.layout.proofs.Prepared.{kinds_room}
@@ -17,9 +17,9 @@ stored : (c : After-fill_states-feasible)
     → StatesStored (problem c.args.self.now.setup.now.queue)
     (entry_from c.args.self.now.setup.now.queue c.loop.self.table.now c.loop.k (in_place c.loop.k.left c.args.self.now.setup.now.layout.kinds c.place_sets.new.sets c.loop.here))
     c.loop.self.table.now c.loop.k.index c.fill_states-feasible.new.self.table.now c.fill_states-feasible.result
-stored c = rw c.loop.invariant.loan.0 at c.fill_states-feasible.ensures.stored
+stored c = c.fill_states-feasible.ensures.stored
 
-stepped : (c : After-step-one_more) → Stepped c.kinds.result.now c.loop.k.left c.step-one_more.new.self.left
+stepped : (c : After-step-one_more) → Stepped c.kinds-kinds.result.now c.loop.k.left c.step-one_more.new.self.left
 stepped c = record { left_after = c.step-one_more.ensures.left_after; left_unchanged = c.step-one_more.ensures.left_unchanged }
 
 pub loop-init : goal.loop-init
@@ -27,7 +27,11 @@ loop-init c = rw c.none-k.ensures record { loan = (refl, refl); index_is = refl;
 
 pub fill_states-feasible-requires : goal.fill_states-feasible-requires
 fill_states-feasible-requires c =
-    rw c.loop.invariant.loan.0 (fills c.args.self.now.setup.now c.loop.invariant.upto (below (goal.at.fill_states-feasible-requires c).In-loop))
+    record {
+      lent = ap (λ (s : _). s.now) (sym c.loop.invariant.loan.0);
+      steps = c.steps-steps.ensures;
+      fillable = fills c.args.self.now.setup.now c.loop.invariant.upto (below (goal.at.fill_states-feasible-requires c).In-loop);
+    }
 
 pub overflow_add-feasible : goal.overflow_add-feasible
 overflow_add-feasible c =
@@ -35,10 +39,10 @@ overflow_add-feasible c =
     record { fits = count_fits c.args.self.now.setup.now c.loop.invariant.upto (below place.In-loop) _ c.place_sets.ensures (stored place.After-fill_states-feasible) }
 
 pub step-one_more-requires-clause-few : goal.step-one_more-requires-clause-few
-step-one_more-requires-clause-few c = let s = c.args.self.now.setup.now in rw c.kinds.ensures (kinds_room s.queue s.valid)
+step-one_more-requires-clause-few c = let s = c.args.self.now.setup.now in rw c.kinds-kinds.ensures (kinds_room s.queue s.valid)
 
 pub step-one_more-requires-clause-summed : goal.step-one_more-requires-clause-summed
-step-one_more-requires-clause-summed c = rw c.kinds.ensures c.loop.invariant.upto.counting.summed
+step-one_more-requires-clause-summed c = rw c.kinds-kinds.ensures c.loop.invariant.upto.counting.summed
 
 pub step-one_more-requires-clause-small : goal.step-one_more-requires-clause-small
 step-one_more-requires-clause-small c =
@@ -57,7 +61,7 @@ pub place_after-here-requires-clause-within : goal.place_after-here-requires-cla
 place_after-here-requires-clause-within c =
     let s = c.args.self.now.setup.now in
     let place = goal.at.place_after-here-requires-clause-within c in
-    let few = few_stepped s.valid s.prepared c.loop.invariant.upto.counting (below place.In-loop) c.kinds.ensures c.step-one_more.new.self (stepped place.After-step-one_more) c.step-one_more.ensures.summed_after in
+    let few = few_stepped s.valid s.prepared c.loop.invariant.upto.counting (below place.In-loop) c.kinds-kinds.ensures c.step-one_more.new.self (stepped place.After-step-one_more) c.step-one_more.ensures.summed_after in
     (omega (arith, few, s.prepared.jobs_are), omega (arith, s.prepared.jobs_are, s.valid.jobs))
 
 pub loop-preserved : goal.loop-preserved
@@ -70,7 +74,7 @@ loop-preserved c =
       loan = (filled.0 ∙ loan.0, filled.1 ∙ loan.1);
       index_is = omega (arith, step.index_value, c.loop.invariant.index_is);
       upto = upto_more c.args.self.now.setup.now c.loop.invariant.upto (below place.In-loop) _ c.place_sets.ensures (stored place.After-fill_states-feasible)
-          c.kinds.ensures c.step-one_more.new.self (stepped place.After-step-one_more) step.summed_after step.index_value c.place_after-here.ensures;
+          c.kinds-kinds.ensures c.step-one_more.new.self (stepped place.After-step-one_more) step.summed_after step.index_value c.place_after-here.ensures;
     }
 
 pub returns-clause-filled_table : goal.returns-clause-filled_table

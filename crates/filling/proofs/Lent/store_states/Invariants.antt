@@ -8,6 +8,6 @@ use Rattle.filling.proofs.Lent.store_states.Given as goal
 
 abbrev pub invariant-loop-kind : goal.invariant-loop-kind
 invariant-loop-kind g l =
-    let q = l.fn.self.setup.now.queue in
+    let q = l.setup.queue in
     ((f : ℕ → OrNone ℕ) → Answers q.kinds (goal.F-post g l.value) f → KindsUpTo (problem q) f l.index l.fn.self.table.now l.table l.feasible l.kind)
     × (l.feasible ≤ l.kind)
