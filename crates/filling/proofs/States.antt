@@ -36,6 +36,7 @@ use Rattle.layout.proofs.Prepared.{kind_is, slot_in}
 use Rattle.next_states.specs.NextStates.{none_of, Ready}
 use Rattle.next_states.proofs.Candidates.{loaded_next, length_next, none_least, none_of_lem}
 use Rattle.next_states.proofs.Numbers.{number_at, left_is}
+use Rattle.filling.specs.declared.Lent.{Lent}
 use Rattle.filling.specs.Filling.{value_by, StatesStored, next_of, weight_of, entry_from}
 
 -- an entry stands in one block
@@ -66,6 +67,10 @@ block_fits s {i} {kind} within low =
     ap (λ (k : Kind). k.block) (kind_is s.valid s.prepared (suc kind) (omega arith) h) ∙ ap (λ (n : ℕ). n * block (problem s.queue)) e in
     let inside : kind * block (problem s.queue) + i < entries (problem s.queue) = digits_lt h within in
     (omega (arith, s.valid.kinds), omega (arith, is, inside, entries_small s.queue s.valid))
+
+-- the lent table is long enough for the queue whose setup is handed beside the loan
+pub lent_room : (l : Lent) {s : Setup} → s ≡ l.setup.now → entries (problem s.queue) ≤ length l.table.now
+lent_room l e = rw e l.room
 
 -- its entry is in a table that is long enough
 pub entry_in : (s : Setup) {i kind at n : ℕ} → i < block (problem s.queue) → entries (problem s.queue) ≤ n → kind < s.layout.size.kinds

@@ -25,11 +25,11 @@ pub record Steppable (kinds : List Kind) (index x : ℕ) : Type 0 where
   pub lower : (y : ℕ) → y ≤ x → (kind_at kinds (suc y)).stride ≤ index
   pub fits : (y : ℕ) → y ≤ x → index + (kind_at kinds (suc y)).block < 2 ^ 64
 
--- the weight taken off and the block added as one number of 64 bits
+-- 02's weight taken off and block added, for one kind, as one number of 64 bits
 abbrev pub step_by : Kind → ℕ
 step_by k = (k.block + (2 ^ 64 - k.stride)) % 2 ^ 64
 
--- the steps of five kinds
+-- these numbers of five kinds
 abbrev pub StepsOf : Layout → List ℕ → Type 0
 StepsOf l steps = (x : ℕ) → x < 5 → get_or steps x 0 ≡ step_by (kind_at l.kinds (suc x))
 

@@ -168,7 +168,7 @@ fn next_entry(layout: &Layout, index: usize, x: usize) -> usize
     index - layout.kinds[x].stride + layout.kinds[x].block
 }
 
-// For each kind the weight taken off and the block added, as one number that 64 bits add.
+// For each kind 02's weight taken off and block added, as one number that 64 bits add.
 pub fn steps(layout: &Layout) -> [usize; 5]
     ensures { StepsOf layout.now result }
 {
@@ -193,13 +193,14 @@ pub fn load_next(layout: &Layout, table: &[u64], k: &JobsLeft) -> [u64; 5]
     next
 }
 
-// The same by such steps, which a caller has of a table's layout once for every k of it.
+// The same by such steps, which filling has made once for every k.
 pub fn load_next_by(steps: &[usize; 5], table: &[u64], k: &JobsLeft) -> [u64; 5]
     requires { (P : Problem) × ((l : Layout) × (Running P l k.now × (StepsOf l steps.now × (entries P ≤ length table.now)))) }
     ensures { (P : Problem) (l : Layout) → Running P l k.now → StepsOf l steps.now → entries P ≤ length table.now → result ≡ next_values P table.now (k_at P k.now.index) }
 {
     let mut next = [NONE; 5];
-    // As `load_next`, but for the one sum: a weight and a block read for each k and kind took a tenth of filling where few states have a value.
+    // The loop of `load_next` but for the sum: a weight and a block read for each k and kind were a twentieth of the instructions where few states have a value.
+    // `load_next` promises of any problem, also of one that the table is too short for, which is asked here: so it is no call of this.
     for x in 0..5 {
         if k.left[x] != 0 {
             next[x] = table[k.index.wrapping_add(steps[x])];

@@ -1,21 +1,15 @@
 -- A turn stores the value of one kind more, at 01's number of its entry.
-use Rattle.std.proofs.Common.{◌<◌, ◌≤◌, ◌≡◌, length, arith}
-use Rattle.sequencing.specs.Entries.{entries}
-use Rattle.problem.specs.OfQueue.{problem}
+use Rattle.std.proofs.Common.{◌<◌, ◌≡◌, length, arith}
 use Rattle.next_states.proofs.Numbers.{blocks}
-use Rattle.filling.proofs.States.{kind_in, kinds_none, block_fits, entry_in, kinds_more, kinds_done}
+use Rattle.filling.proofs.States.{kind_in, kinds_none, lent_room, block_fits, entry_in, kinds_more, kinds_done}
 use Rattle.filling.proofs.Lent.store_states.Goals as goal
 use Rattle.filling.proofs.Lent.store_states.Goals.{After-state_entry-entry}
-
--- the table is long enough for the queue whose setup is handed beside it
-room : (g : _) (c : After-state_entry-entry g) → entries (problem c.args.setup.now.queue) ≤ length c.args.self.now.table.now
-room g c = rw c.requires.lent c.args.self.now.room
 
 -- its entry lies in the table
 inside : (g : _) (c : After-state_entry-entry g) → c.state_entry-entry.result < length c.loop-kind.table
 inside g c =
     let s = c.args.setup.now in
-    entry_in s c.requires.in_table (omega (arith, room g c, c.loop-kind.auto.table)) c.loop-kind-test.true
+    entry_in s c.requires.in_table (omega (arith, lent_room c.args.self.now c.requires.lent, c.loop-kind.auto.table)) c.loop-kind-test.true
     (c.state_entry-entry.ensures _ (blocks s) c.requires.in_table (kind_in s c.loop-kind-test.true))
 
 pub loop-kind-init : goal.loop-kind-init

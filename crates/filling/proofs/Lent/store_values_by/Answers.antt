@@ -1,24 +1,18 @@
 -- A turn stores the value of one kind more, at 01's number of its entry.
-use Rattle.std.proofs.Common.{ℕ, suc, Bool, add-one, ◌<◌, ◌≤◌, ◌≡◌, length, ap, ◌∙◌, arith}
-use Rattle.sequencing.specs.Entries.{entries}
-use Rattle.problem.specs.OfQueue.{problem}
+use Rattle.std.proofs.Common.{ℕ, suc, Bool, add-one, ◌<◌, ◌≡◌, length, ap, ◌∙◌, arith}
 use Rattle.next_states.specs.NextStates.{answer}
 use Rattle.next_states.proofs.Numbers.{blocks}
 use Rattle.filling.specs.Filling.{entry_from, in_place}
-use Rattle.filling.proofs.States.{kind_in, kinds_none, block_fits, entry_in, kinds_more, kinds_done, slot_in_places, ready_here, entry_value}
+use Rattle.filling.proofs.States.{kind_in, kinds_none, lent_room, block_fits, entry_in, kinds_more, kinds_done, slot_in_places, ready_here, entry_value}
 use Rattle.filling.proofs.Lent.store_values_by.Goals as goal
 use Rattle.filling.proofs.Lent.store_values_by.Goals.{After-state_entry-entry}
-
--- the table is long enough for the queue whose setup is handed beside it
-room : (g : _) (c : After-state_entry-entry g) → entries (problem c.args.setup.now.queue) ≤ length c.args.self.now.table.now
-room g c = rw c.requires.lent c.args.self.now.room
 
 -- its entry lies in the table
 inside : (g : _) (c : After-state_entry-entry g) → c.state_entry-entry.result < length c.loop-kind.table
 inside g c =
     let s = c.args.setup.now in
     let within = c.requires.fillable.left_of.left_at.within in
-    entry_in s within (omega (arith, room g c, c.loop-kind.auto.table)) c.loop-kind-test.true
+    entry_in s within (omega (arith, lent_room c.args.self.now c.requires.lent, c.loop-kind.auto.table)) c.loop-kind-test.true
     (c.state_entry-entry.ensures _ (blocks s) within (kind_in s c.loop-kind-test.true))
 
 pub loop-kind-init : goal.loop-kind-init
